@@ -1,0 +1,4 @@
+pub mod Reader
+pub mod Grammar
+pub mod Reading
+pub mod Pieces
