@@ -30,26 +30,29 @@ module _ (line : List ℕ) (i n : ℕ) (s rest : List ℕ) (here : i ≤ length 
   part : s ≡ take n rest
   part = let e : n - 0 ≡ n = omega arith in cut ∙ ap (λ m. take m rest) e
 
-  same : s ≡ take (i + n - i) (drop i line)
-  same = let e : n ≡ i + n - i = omega arith in part ∙ ap (take n) at ∙ ap (λ m. take m (drop i line)) e
-
   long : length rest + i ≡ length line
   long = omega (arith, ap length at, length-drop i line)
 
-  pub colour-cut : Heads rest n → Cut line i (i + n) (colour s)
+  same : n ≤ length rest → s ≡ take (i + length s - i) (drop i line)
+  same h = let e : n ≡ i + length s - i = omega (arith, ap length part, length-take n rest) in part ∙ ap (take n) at ∙ ap (λ m. take m (drop i line)) e
+
+  size : n ≤ length rest → length s ≡ n
+  size h = omega (arith, ap length part, length-take n rest)
+
+  pub colour-cut : Heads rest n → Cut line i (i + length s) (colour s)
   colour-cut h = record {
-    part = same;
-    some = omega (arith, sequence-some _ (h .sequence), length-take n rest);
-    within = omega (arith, h .within, long);
+    part = same (h .within);
+    some = omega (arith, sequence-some _ (h .sequence), length-take n rest, size (h .within), h .within);
+    within = omega (arith, h .within, long, size (h .within));
     kind = subst Sequence (sym part) (h .sequence);
   }
 
-  pub plain-cut : 0 < n → n ≤ length rest → ((m : ℕ) → Heads rest m → ⊥) → ((k : ℕ) → 0 < k → k < n → Opens rest k → ⊥) → (n < length rest → Opens rest n) → Cut line i (i + n) (plain s)
+  pub plain-cut : 0 < n → n ≤ length rest → ((m : ℕ) → Heads rest m → ⊥) → ((k : ℕ) → 0 < k → k < n → Opens rest k → ⊥) → (n < length rest → Opens rest n) → Cut line i (i + length s) (plain s)
   plain-cut some within first none then = record {
-    part = same;
-    some = omega arith;
-    within = omega (arith, long);
-    kind = (λ k low high o. never (k - i) k (let e : i + (k - i) ≡ k = omega arith in e) high o, λ more. to n (then (omega (arith, long))));
+    part = same within;
+    some = omega (arith, size within);
+    within = omega (arith, long, size within);
+    kind = (λ k low high o. never (k - i) k (let e : i + (k - i) ≡ k = omega arith in e) (omega (arith, size within)) o, λ more. subst (λ m. Opens line (i + m)) (sym (size within)) (to n (then (omega (arith, long, size within)))));
   }
     where
       to : (k : ℕ) → Opens rest k → Opens line (i + k)
@@ -64,6 +67,9 @@ module _ (line : List ℕ) (i n : ℕ) (s rest : List ℕ) (here : i ≤ length 
 
       never : (d : ℕ) (k : ℕ) → i + d ≡ k → k < i + n → Opens line k → ⊥
       never d k e h o = by d (eq-zero-or-pos d) (omega (arith, e)) (from d (subst (Opens line) (sym e) o))
+
+pub given-next : (line : List ℕ) (i j : ℕ) (p : Part) → Cut line i j p → (ps : List Part) → Given line ps i → Given line (ps ++ p ∷ []) j
+given-next line i j p h ps g = next ps i j p g h
 
 -- ---- one piece more at the end
 joined-push : (ps : List Part) (p : Part) → joined (ps ++ p ∷ []) ≡ joined ps ++ bytes p
