@@ -4,11 +4,14 @@ use mathlib.Core.Bool.{true}
 use mathlib.Core.List.{List, [], _∷_, _++_}
 use Prim.Native.Nat.{ℕ}
 use native.Mathlib.Omega.{arith}
-use lib.Utf8.{encode, scalar}
+use lib.Utf8.{encode, scalar, encodes, scalars}
+use mathlib.Core.Bool.{_&&_}
 use Rattle.std.specs.Reads as std
 use Rattle.std.proofs.shelf.Text.{encode-same}
 use Rattle.std.proofs.shelf.Ways.{tells}
-use Rattle.utf8.specs.Rfc.{octets, scalar-value, Char, NoChar, As-std}
+use Rattle.utf8.specs.Rfc.{octets, scalar-value, Char, NoChar, Spells, As-std}
+use Rattle.utf8.specs.Rfc as rfc
+use Rattle.std.proofs.str.Laws.{both}
 
 pub octets-are : (c : ℕ) → octets c ≡ encode c
 unfolding encode
@@ -35,3 +38,16 @@ none bs h c rest k = h c rest (scalar-is k) (encoded k)
 -- a list begins with one character at most
 pub one-char : (bs : List ℕ) (c d : ℕ) (rest more : List ℕ) → Char bs c rest → Char bs d more → (c ≡ d) × (rest ≡ more)
 one-char bs c d rest more h k = encode-same c d rest more (sym (encoded h) ∙ encoded k)
+
+-- whole texts
+pub spells : (cs bs : List ℕ) → scalars cs ≡ true → encodes cs ≡ bs → Spells bs cs
+spells [] bs v e = subst (λ l. Spells l []) e rfc.none
+spells (c ∷ cs) bs v e =
+    let k = both (scalar c) (scalars cs) v in
+    rfc.char bs (encodes cs) cs c (char bs c (encodes cs) (k .0) (sym e)) (spells cs (encodes cs) (k .1) refl)
+
+pub spelled : (bs cs : List ℕ) → Spells bs cs → (scalars cs ≡ true) × (encodes cs ≡ bs)
+spelled bs cs rfc.none = (refl, refl)
+spelled bs cs (rfc.char _ rest ds c h k) =
+    let on = spelled rest ds k in
+    ((λ i. scalar-is h i && on .0 i), ap (λ l. encode c ++ l) (on .1) ∙ sym (encoded h))

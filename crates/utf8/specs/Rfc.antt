@@ -34,6 +34,11 @@ pub record Char (bs : List ℕ) (c : ℕ) (rest : List ℕ) : Type 0 where
 abbrev pub NoChar : List ℕ → Type 0
 NoChar bs = (c : ℕ) (rest : List ℕ) → Char bs c rest → ⊥
 
+-- bs is the UTF-8 of the code points cs, one after the other
+pub data Spells : List ℕ → List ℕ → Type 0 where
+  none : Spells [] []
+  char : (bs rest cs : List ℕ) (c : ℕ) → Char bs c rest → Spells rest cs → Spells bs (c ∷ cs)
+
 -- this is the UTF-8 of the standard library
 pub record As-std (c : ℕ) : Type 0 where
   pub octets-are : octets c ≡ encode c
