@@ -19,9 +19,7 @@ use Rattle.text.specs.declared.metrics.Metrics.{Metrics}
 use Rattle.text.specs.Width.{Rule}
 use Rattle.text.specs.Texts.{utf8, admissible, characters}
 use Rattle.text.specs.Rows.{metrics, start, Measures}
-use Rattle.text.specs.Outcomes.{measured, Line, Admitted, first-line}
-use Rattle.refusal.specs.declared.Refusal.the-variants.{NotAdmissible}
-use Rattle.std.specs.declared.result.Result.the-variants.{Ok, Err}
+use Rattle.text.specs.Outcomes.{measured, Line}
 use Rattle.text.proofs.Deciding.{decided, codes-of}
 use Rattle.text.proofs.Dividing.{measures, column-fits, rows-within}
 
@@ -59,9 +57,3 @@ line W u bs m rule h e is = subst (Line W u bs) (sym is) computed
           rows = r .0;
           most = omega (arith, r .1, characters-fewer bs e);
         }
-
-pub admitted : (bs : List ℕ) → admissible bs ≡ true → Admitted bs (Ok tt)
-admitted bs e = record { number = ap (λ b. cond b 0 6) (sym e); place = ap (λ b. first-line (cond b 0 6)) (sym e); decided = decided bs }
-
-pub not-admitted : (bs : List ℕ) → admissible bs ≡ false → Admitted bs (Err (NotAdmissible 0))
-not-admitted bs e = record { number = ap (λ b. cond b 0 6) (sym e); place = ap (λ b. first-line (cond b 0 6)) (sym e); decided = decided bs }
