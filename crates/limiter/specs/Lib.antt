@@ -1,0 +1,3 @@
+pub mod Spending
+pub mod Ration
+pub mod History
