@@ -1,3 +1,5 @@
 pub mod Spending
 pub mod Ration
 pub mod History
+pub mod Standing
+pub mod Course

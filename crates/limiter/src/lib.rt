@@ -1,5 +1,7 @@
 // How often a display may be drawn, and how often a bar may report its position.
 mod capacity;
+mod position;
 mod rate;
 
+pub use position::AtomicPosition;
 pub use rate::RateLimiter;

@@ -1,4 +1,4 @@
-// Making a rate limiter, and asking it.
+// Making a rate limiter, and asking it. A clause writes `x .now` for `now x`: a parameter has that name.
 ghost use mathlib.Core.Path.{_≡_};
 ghost use mathlib.Core.List.{List, []};
 ghost use Prim.Native.Nat.{ℕ, _<_};
