@@ -1,9 +1,10 @@
 -- What every course of a position keeps on a clock that does not go back, and the laws that follow.
-use mathlib.Core.Path.{_≡_, refl, _∙_}
+use mathlib.Core.Path.{_≡_, refl, sym, _∙_}
 use mathlib.Core.Bool.{Bool, true, false, cond}
 use mathlib.Core.Logic.{inl, inr}
 use Prim.Native.Nat.{ℕ, _+_, _-_, _*_, _/_, _<_, _≤_, min}
 use native.Mathlib.Omega.{arith}
+use Rattle.std.proofs.shelf.Tests.{cond-true, cond-false}
 use Rattle.limiter.specs.History.{counted}
 use Rattle.limiter.specs.Standing.{Standing, fresh, elapsed, since, grants, granted, polled, placed, restarted}
 use Rattle.limiter.specs.Course.{Polled, Course, begin, poll, place, restart, Paced}
@@ -18,6 +19,13 @@ record Kept (start last yeses : ℕ) (s : Standing) : Type 0 where
 
 abbrev Ready : Standing → ℕ → Type 0
 Ready s now = Due (s .start) now (s .capacity) 1000000 (since s now)
+
+-- a question answered in two steps, the test and the payment
+pub said-no : (s : Standing) (now : ℕ) → false ≡ grants s now → Polled s now false s
+said-no s now h = record { answered = h; after = sym (cond-false (grants s now) (granted s now) s (sym h)) }
+
+pub said-yes : (s t : Standing) (now : ℕ) → true ≡ grants s now → t ≡ granted s now → Polled s now true t
+said-yes s t now h e = record { answered = h; after = e ∙ sym (cond-true (grants s now) (granted s now) s (sym h)) }
 
 ready : (s : Standing) (now : ℕ) → Ready s now → grants s now ≡ true
 ready s now d = due-granted (s .start) now (s .capacity) 1000000 (since s now) d

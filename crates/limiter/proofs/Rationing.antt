@@ -5,6 +5,7 @@ use mathlib.Core.Logic.{inl, inr}
 use mathlib.Core.List.{List, [], _∷_}
 use Prim.Native.Nat.{ℕ, _+_, _-_, _*_, _/_, _<_, _≤_, max}
 use native.Mathlib.Omega.{arith}
+use Rattle.std.proofs.shelf.Tests.{cond-true, cond-false}
 use Rattle.limiter.specs.declared.rate.RateLimiter.{RateLimiter}
 use Rattle.limiter.specs.Ration.{Ration, ration, nanos, passed, grants, granted, asked}
 use Rattle.limiter.specs.History.{Asked, Sound, counted, Run, begin, ask, latest, bound, Rationed}
@@ -30,8 +31,18 @@ pub record Kept (start : Ration) (readings : List ℕ) (yeses : ℕ) (r : Ration
 abbrev Ready : Ration → ℕ → Type 0
 Ready r now = Due (r .prev) now (r .capacity) (nanos r) (now - r .prev)
 
+-- a question answered in two steps, the test and the payment
+pub said-no : (r : Ration) (now : ℕ) → false ≡ grants r now → Asked r now false r
+said-no r now h = record { answered = h; after = sym (cond-false (grants r now) (granted r now) r (sym h)) }
+
+pub said-yes : (r s : Ration) (now : ℕ) → true ≡ grants r now → s ≡ granted r now → Asked r now true s
+said-yes r s now h e = record { answered = h; after = e ∙ sym (cond-true (grants r now) (granted r now) r (sym h)) }
+
 ready : (r : Ration) (now : ℕ) → Ready r now → grants r now ≡ true
 ready r now d = due-granted (r .prev) now (r .capacity) (nanos r) (now - r .prev) d
+
+pub pays : (r : Ration) (now : ℕ) → 0 < r .interval → grants r now ≡ true → 0 < r .capacity + passed r now
+pays r now some h = payable (r .capacity) (now - r .prev) (nanos r) (omega arith) (due (r .prev) now (r .capacity) (nanos r) (now - r .prev) h .funded)
 
 keeps-yes : {start r : Ration} {readings : List ℕ} {yeses : ℕ} (reading : ℕ) → Kept start readings yeses r → Ready r reading → Kept start (reading ∷ readings) (yeses + 1) (granted r reading)
 keeps-yes {start} {r} {readings} {yeses} reading k d =

@@ -3,3 +3,4 @@ pub mod Ration
 pub mod History
 pub mod Standing
 pub mod Course
+pub mod Figures

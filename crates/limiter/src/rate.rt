@@ -1,5 +1,6 @@
 // The limiter of drawing: so many draws a second, and a burst above it.
 ghost use Prim.Native.Nat.{_<_, _≤_};
+
 mod calls;
 
 #[derive(Debug, Drop)]
