@@ -1,0 +1,5 @@
+// Executed vectors of the limiters.
+#[cfg(test)]
+mod draws;
+#[cfg(test)]
+mod reports;
