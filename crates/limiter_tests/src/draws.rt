@@ -1,8 +1,8 @@
 // Vectors of the rate limiter.
+use crate::shown::holds;
 use limiter::RateLimiter;
 use limiter::RateLimiterDebug;
 use refusal::RefusalDebug;
-use std::alloc::Global;
 use std::test::*;
 
 const MAX: u64 = u64::MAX;
@@ -15,11 +15,6 @@ fn answers(limiter: &mut RateLimiter, expected: &[(u64, u8, bool)]) -> Result<()
         }
     }
     Ok(())
-}
-
-fn holds(heap: Global, limiter: &RateLimiter, expected: &str) -> Result<(), Fail> {
-    let text = format!(heap, "{limiter:?}")?;
-    check_eq(text.as_str(), expected)
 }
 
 #[test]

@@ -3,3 +3,5 @@
 mod draws;
 #[cfg(test)]
 mod reports;
+#[cfg(test)]
+mod shown;

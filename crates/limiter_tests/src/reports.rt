@@ -1,7 +1,7 @@
 // Vectors of the position and its limiter.
+use crate::shown::holds;
 use limiter::AtomicPosition;
 use limiter::AtomicPositionDebug;
-use std::alloc::Global;
 use std::test::*;
 
 const MAX: u64 = u64::MAX;
@@ -14,11 +14,6 @@ fn answers(position: &mut AtomicPosition, expected: &[(u64, u8, bool)]) -> Resul
         }
     }
     Ok(())
-}
-
-fn holds(heap: Global, position: &AtomicPosition, expected: &str) -> Result<(), Fail> {
-    let text = format!(heap, "{position:?}")?;
-    check_eq(text.as_str(), expected)
 }
 
 #[test]
