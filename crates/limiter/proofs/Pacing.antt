@@ -2,11 +2,11 @@
 use mathlib.Core.Path.{_≡_, refl, sym, _∙_}
 use mathlib.Core.Bool.{Bool, true, false, cond}
 use mathlib.Core.Logic.{inl, inr}
-use Prim.Native.Nat.{ℕ, _+_, _-_, _*_, _/_, _<_, _≤_, min}
+use Prim.Native.Nat.{ℕ, _+_, _-_, _/_, _≤_}
 use native.Mathlib.Omega.{arith}
 use Rattle.std.proofs.shelf.Tests.{cond-true, cond-false}
 use Rattle.limiter.specs.History.{counted}
-use Rattle.limiter.specs.Standing.{Standing, fresh, elapsed, since, grants, granted, polled, placed, restarted}
+use Rattle.limiter.specs.Standing.{Standing, since, grants, granted}
 use Rattle.limiter.specs.Course.{Polled, Course, begin, poll, place, restart, Paced}
 use Rattle.limiter.proofs.Intervals.{Due, due, due-granted}
 

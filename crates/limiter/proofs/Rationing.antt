@@ -3,11 +3,11 @@ use mathlib.Core.Path.{_≡_, refl, sym, ap, _∙_}
 use mathlib.Core.Bool.{Bool, true, false, cond}
 use mathlib.Core.Logic.{inl, inr}
 use mathlib.Core.List.{List, [], _∷_}
-use Prim.Native.Nat.{ℕ, _+_, _-_, _*_, _/_, _<_, _≤_, max}
+use Prim.Native.Nat.{ℕ, _+_, _-_, _*_, _/_, _<_, _≤_}
 use native.Mathlib.Omega.{arith}
 use Rattle.std.proofs.shelf.Tests.{cond-true, cond-false}
 use Rattle.limiter.specs.declared.rate.RateLimiter.{RateLimiter}
-use Rattle.limiter.specs.Ration.{Ration, ration, nanos, passed, grants, granted, asked}
+use Rattle.limiter.specs.Ration.{Ration, ration, nanos, passed, grants, granted}
 use Rattle.limiter.specs.History.{Asked, Sound, counted, Run, begin, ask, latest, bound, Rationed}
 use Rattle.limiter.proofs.Intervals.{Due, due, due-granted, payable, passed-more, moved-within, paid}
 
@@ -18,14 +18,14 @@ sound l = record { some = l .some; most = l .most; few = l .few }
 pub begun : (start : Ration) (l : RateLimiter) → ration l ≡ start → Run start [] 0 (ration l)
 begun start l e = rw (← e) (begin (sound l))
 
-pub record Kept (start : Ration) (readings : List ℕ) (yeses : ℕ) (r : Ration) : Type 0 where
-  pub same : r .interval ≡ start .interval
-  pub some : 0 < start .interval
-  pub few : start .capacity ≤ 20
-  pub onward : start .prev ≤ r .prev
-  pub behind : r .prev ≤ latest (start .prev) readings
-  pub floor : start .capacity ≤ r .capacity + yeses
-  pub ceiling : r .capacity + yeses ≤ start .capacity + (r .prev - start .prev) / nanos r
+record Kept (start : Ration) (readings : List ℕ) (yeses : ℕ) (r : Ration) : Type 0 where
+  same : r .interval ≡ start .interval
+  some : 0 < start .interval
+  few : start .capacity ≤ 20
+  onward : start .prev ≤ r .prev
+  behind : r .prev ≤ latest (start .prev) readings
+  floor : start .capacity ≤ r .capacity + yeses
+  ceiling : r .capacity + yeses ≤ start .capacity + (r .prev - start .prev) / nanos r
 
 -- what a yes answer to a question says
 abbrev Ready : Ration → ℕ → Type 0
@@ -68,7 +68,7 @@ keeps {start} {r} {s} {readings} {yeses} {reading} {answer} k a = rw (a .answere
     by true h = keeps-yes reading k (due _ _ _ _ _ h)
     by false h = keeps-no reading k
 
-pub kept : {start r : Ration} {readings : List ℕ} {yeses : ℕ} → Run start readings yeses r → Kept start readings yeses r
+kept : {start r : Ration} {readings : List ℕ} {yeses : ℕ} → Run start readings yeses r → Kept start readings yeses r
 kept (begin sound) = record { same = refl; some = sound .some; few = sound .few; onward = omega arith; behind = omega arith; floor = omega arith; ceiling = omega arith }
 kept (ask run a) = keeps (kept run) a
 

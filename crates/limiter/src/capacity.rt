@@ -1,6 +1,6 @@
 // The capacity that either limiter holds, in yes answers.
 ghost use mathlib.Core.Path.{_≡_};
-ghost use Prim.Native.Nat.{_+_, _<_, _≤_, _^_};
+ghost use Prim.Native.Nat.{_+_, _<_, _^_};
 ghost use Rattle.limiter.specs.Spending.{spend};
 
 pub const NANOS_PER_MILLI: u64 = 1_000_000;

@@ -8,6 +8,7 @@ mod calls;
 pub struct AtomicPosition {
     pos: u64,
     capacity: u8,
+    // nanoseconds from `start`, up to which milliseconds were counted
     prev: u64,
     start: u64,
     ghost few: { capacity ≤ 10 },

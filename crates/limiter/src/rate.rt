@@ -5,8 +5,10 @@ mod calls;
 
 #[derive(Debug, Drop)]
 pub struct RateLimiter {
+    // in milliseconds
     interval: u16,
     capacity: u8,
+    // the reading up to which intervals were counted
     prev: u64,
     ghost some: { 0 < interval },
     ghost most: { interval ≤ 1000 },
