@@ -3,13 +3,14 @@ use mathlib.Core.Path.{_≡_, refl, sym, ap, _∙_}
 use mathlib.Core.Bool.{Bool, true, false, cond}
 use mathlib.Core.Logic.{inl, inr}
 use mathlib.Core.List.{List, [], _∷_}
-use Prim.Native.Nat.{ℕ, _+_, _-_, _*_, _/_, _<_, _≤_}
+use Prim.Native.Nat.{ℕ, _+_, _-_, _*_, _/_, _<_, _≤_, max}
+use native.Mathlib.Nat.{add-mul}
 use native.Mathlib.Omega.{arith}
 use Rattle.std.proofs.shelf.Tests.{cond-true, cond-false}
 use Rattle.limiter.specs.declared.rate.RateLimiter.{RateLimiter}
 use Rattle.limiter.specs.Ration.{Ration, ration, nanos, passed, grants, granted}
 use Rattle.limiter.specs.History.{Asked, Sound, counted, Run, begin, ask, latest, bound, Rationed}
-use Rattle.limiter.proofs.Intervals.{Due, due, due-granted, payable, passed-more, moved-within, paid}
+use Rattle.limiter.proofs.Intervals.{Due, due, due-granted, payable, funded, none-pass, passed-more, moved-within, moved-on, counted-on, paid}
 
 -- where any limiter stands, a history can begin
 pub sound : (l : RateLimiter) → Sound (ration l)
@@ -25,6 +26,8 @@ record Kept (start : Ration) (readings : List ℕ) (yeses : ℕ) (r : Ration) : 
   onward : start .prev ≤ r .prev
   behind : r .prev ≤ latest (start .prev) readings
   floor : start .capacity ≤ r .capacity + yeses
+  whole : r .prev ≡ start .prev + (r .prev - start .prev) / nanos r * nanos r
+  exact : start .capacity + (r .prev - start .prev) / nanos r ≤ 20 → r .capacity + yeses ≡ start .capacity + (r .prev - start .prev) / nanos r
   ceiling : r .capacity + yeses ≤ start .capacity + (r .prev - start .prev) / nanos r
 
 -- what a yes answer to a question says
@@ -47,7 +50,8 @@ pays r now some h = payable (r .capacity) (now - r .prev) (nanos r) (omega arith
 keeps-yes : {start r : Ration} {readings : List ℕ} {yeses : ℕ} (reading : ℕ) → Kept start readings yeses r → Ready r reading → Kept start (reading ∷ readings) (yeses + 1) (granted r reading)
 keeps-yes {start} {r} {readings} {yeses} reading k d =
     let pace : 0 < nanos r = omega arith in
-    let pays = payable (r .capacity) (reading - r .prev) (nanos r) pace (d .funded) in
+    let paying = payable (r .capacity) (reading - r .prev) (nanos r) pace (d .funded) in
+    let on = moved-on (start .prev) (r .prev) reading (nanos r) pace (k .onward) in
     record {
       same = k .same;
       some = k .some;
@@ -55,11 +59,13 @@ keeps-yes {start} {r} {readings} {yeses} reading k d =
       onward = omega arith;
       behind = omega (arith, moved-within (r .prev) reading (nanos r) (d .reached));
       floor = omega arith;
-      ceiling = paid 20 (start .prev) (r .prev) reading (nanos r) (start .capacity) (r .capacity) yeses pace (k .onward) pays (k .ceiling);
+      whole = rw on (omega (arith, k .whole, add-mul ((r .prev - start .prev) / nanos r) (passed r reading) (nanos r)));
+      exact = λ most. let less = rw on at most in rw on (omega (arith, k .exact (omega arith)));
+      ceiling = paid 20 (start .prev) (r .prev) reading (nanos r) (start .capacity) (r .capacity) yeses pace (k .onward) paying (k .ceiling);
     }
 
 keeps-no : {start r : Ration} {readings : List ℕ} {yeses : ℕ} (reading : ℕ) → Kept start readings yeses r → Kept start (reading ∷ readings) yeses r
-keeps-no reading k = record { same = k .same; some = k .some; few = k .few; onward = k .onward; behind = omega arith; floor = k .floor; ceiling = k .ceiling }
+keeps-no reading k = record { same = k .same; some = k .some; few = k .few; onward = k .onward; behind = omega arith; floor = k .floor; whole = k .whole; exact = k .exact; ceiling = k .ceiling }
 
 keeps : {start r s : Ration} {readings : List ℕ} {yeses reading : ℕ} {answer : Bool} → Kept start readings yeses r → Asked r reading answer s → Kept start (reading ∷ readings) (counted answer yeses) s
 keeps {start} {r} {s} {readings} {yeses} {reading} {answer} k a = rw (a .answered, a .after) (by (grants r reading) refl)
@@ -69,7 +75,19 @@ keeps {start} {r} {s} {readings} {yeses} {reading} {answer} k a = rw (a .answere
     by false h = keeps-no reading k
 
 kept : {start r : Ration} {readings : List ℕ} {yeses : ℕ} → Run start readings yeses r → Kept start readings yeses r
-kept (begin sound) = record { same = refl; some = sound .some; few = sound .few; onward = omega arith; behind = omega arith; floor = omega arith; ceiling = omega arith }
+kept {start} (begin sound) =
+    let none = none-pass (start .prev) (nanos start) in
+    record {
+      same = refl;
+      some = sound .some;
+      few = sound .few;
+      onward = omega arith;
+      behind = omega arith;
+      floor = omega arith;
+      whole = rw none (omega arith);
+      exact = λ most. omega arith;
+      ceiling = omega arith;
+    }
 kept (ask run a) = keeps (kept run) a
 
 -- capacity is never negative, and prev never past the latest reading
@@ -80,6 +98,17 @@ within {start} {r} {readings} k =
     let ceiling = rw level at (k .ceiling) in
     omega (arith, ceiling, passed-more (r .prev - start .prev) (latest (start .prev) readings - start .prev) (nanos start) pace (omega arith))
 
+-- within a burst every yes that the bound allows is still held, or was earned by now
+unlost : {start r : Ration} {readings : List ℕ} {yeses reading : ℕ} → Kept start readings yeses r → latest (start .prev) readings ≤ reading → bound start (reading ∷ readings) ≤ 20 → yeses < bound start (reading ∷ readings) → Ready r reading
+unlost {start} {r} {readings} {yeses} {reading} k steady most below =
+    let reached : r .prev ≤ reading = omega arith in
+    let top : max reading (latest (start .prev) readings) ≡ reading = omega arith in
+    let level : nanos start ≡ nanos r = ap (λ i. i * 1000000) (sym (k .same)) in
+    let on = counted-on (start .prev) (r .prev) reading (nanos r) (omega arith) (k .onward) reached (k .whole) in
+    let within = rw (top, level) at most in
+    let under = rw (top, level) at below in
+    record { reached = reached; funded = funded (r .capacity) (reading - r .prev) (nanos r) (omega (arith, k .exact (omega arith))) }
+
 pub rationed : {start r s : Ration} {readings : List ℕ} {yeses reading : ℕ} {answer : Bool} → Run start readings yeses r → Asked r reading answer s → Rationed start readings yeses reading answer s
 rationed {start} {r} {s} {readings} {yeses} {reading} run a =
     let k = kept run in
@@ -88,5 +117,6 @@ rationed {start} {r} {s} {readings} {yeses} {reading} run a =
       runs = next;
       most = within (kept next);
       burst = λ steady few. a .answered ∙ ready r reading (record { reached = omega arith; funded = inl (omega arith) });
+      exact = λ steady most below. a .answered ∙ ready r reading (unlost k steady most below);
       served = λ later. a .answered ∙ ready r reading (record { reached = omega arith; funded = inr (omega arith) });
     }

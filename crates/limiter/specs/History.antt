@@ -41,5 +41,7 @@ pub record Rationed (start : Ration) (readings : List ℕ) (yeses reading : ℕ)
   pub most : counted answer yeses ≤ bound start (reading ∷ readings)
   -- a clock that has not gone back has its yes until what was held at the start is used up,
   pub burst : latest (start .prev) readings ≤ reading → yeses < start .capacity → answer ≡ true
-  -- and again whenever an interval has passed since all earlier readings
+  -- and while no more than a burst was held and earned in all, every yes that the bound allows: no part of an interval is lost;
+  pub exact : latest (start .prev) readings ≤ reading → bound start (reading ∷ readings) ≤ 20 → yeses < bound start (reading ∷ readings) → answer ≡ true
+  -- yes again whenever an interval has passed since all earlier readings
   pub served : latest (start .prev) readings + nanos start ≤ reading → answer ≡ true
