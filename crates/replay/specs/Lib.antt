@@ -1,0 +1,10 @@
+pub mod Arguments
+pub mod Commands
+pub mod Cuts
+pub mod Escapes
+pub mod Faults
+pub mod Forms
+pub mod Grammar
+pub mod Numbers
+pub mod Orders
+pub mod Words
