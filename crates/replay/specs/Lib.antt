@@ -1,3 +1,4 @@
+pub mod Appends
 pub mod Arguments
 pub mod Commands
 pub mod Cuts
@@ -7,4 +8,6 @@ pub mod Forms
 pub mod Grammar
 pub mod Numbers
 pub mod Orders
+pub mod Rendering
+pub mod Traces
 pub mod Words

@@ -34,7 +34,7 @@ fn escape(text: &[u8]) -> Option<(u8, &[u8])>
 }
 
 // The first byte that a text spells, and the rest of the text.
-fn next_byte(text: &[u8]) -> Option<(u8, &[u8])>
+pub(crate) fn next_byte(text: &[u8]) -> Option<(u8, &[u8])>
     ensures { λ r. ⌜ Cases r (NoByte (now (text .entry))) (λ p. Byte (now (text .entry)) (p .0) (now (p .1))) ⌝ }
 {
     match text {

@@ -6,6 +6,7 @@ ghost use Rattle.replay.specs.Words.{verb, choice, listed, later, VerbIs, Choi
 use crate::command::Rule;
 
 // The first word of a command.
+#[derive(Drop)]
 pub(crate) enum Verb {
     Measure,
     Admit,
@@ -16,6 +17,7 @@ pub(crate) enum Verb {
 }
 
 // The second word of `limiter` and of `position`.
+#[derive(Drop)]
 pub(crate) enum Choice {
     Allow,
     Reset,
