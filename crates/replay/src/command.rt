@@ -1,5 +1,6 @@
 // Commands, and the faults of lines that are none.
 ghost use mathlib.Core.Path.{_≡_};
+ghost use Rattle.replay.specs.Messages.{message};
 
 // How wide a character is taken to be.
 #[derive(Clone, Copy, Debug, PartialEq, Eq)]
@@ -32,4 +33,21 @@ pub enum Fault {
     Rate,
     Rule,
     Escape,
+}
+
+impl Fault {
+    // What is said of the line.
+    pub fn message(self) -> &'static str
+        ensures { λ r. ⌜ now r ≡ message self ⌝ }
+    {
+        match self {
+            Fault::Unknown => "unknown command",
+            Fault::Unsupported => "command not supported",
+            Fault::Words => "wrong number of words",
+            Fault::Number => "not a number from 0 to 18446744073709551615",
+            Fault::Rate => "rate above 255",
+            Fault::Rule => "width rule is neither plain nor house",
+            Fault::Escape => "unknown escape in text",
+        }
+    }
 }
