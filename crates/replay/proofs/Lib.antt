@@ -3,6 +3,7 @@ pub mod Bytes
 pub mod Cutting
 pub mod Laws
 pub mod Reading
+pub mod Renders
 pub mod RoundTrip
 pub mod Tables
 pub mod Taking

@@ -2,7 +2,9 @@
 ghost use Rattle.std.specs.Of.Vec.{vec-items};
 ghost use Rattle.replay.specs.Appends.{Appends};
 ghost use Rattle.replay.specs.Traces.{shown, traced};
-use crate::put::{put, put_numbered, put_two};
+use crate::put::put;
+use crate::put::put_numbered;
+use crate::put::put_two;
 use std::alloc::AllocError;
 
 // What a command answers.
@@ -22,8 +24,14 @@ pub fn show(out: &mut Vec<u8>, answer: &Answer) -> Result<(), AllocError>
 {
     match *answer {
         Answer::Ok => put(out, b"ok"),
-        Answer::Refused { number, place: None } => put_numbered(out, b"refused ", u64::from(number)),
-        Answer::Refused { number, place: Some(at) } => put_two(out, b"refused ", u64::from(number), b" at ", at),
+        Answer::Refused {
+            number,
+            place: None,
+        } => put_numbered(out, b"refused ", u64::from(number)),
+        Answer::Refused {
+            number,
+            place: Some(at),
+        } => put_two(out, b"refused ", u64::from(number), b" at ", at),
         Answer::Metrics { rows, column } => put_two(out, b"rows ", rows, b" column ", column),
         Answer::Yes => put(out, b"yes"),
         Answer::No => put(out, b"no"),

@@ -12,14 +12,33 @@ pub enum Rule {
 // A command, its text as it stands in the line, with its escapes.
 #[derive(Clone, Copy)]
 pub enum Command<'a> {
-    Measure { width: u64, rule: Rule, text: &'a [u8] },
-    Admit { text: &'a [u8] },
-    Limiter { rate: u8, start: u64 },
-    LimiterAllow { now: u64 },
-    Position { start: u64 },
-    PositionAllow { now: u64 },
-    PositionReset { now: u64 },
-    PositionSet { position: u64 },
+    Measure {
+        width: u64,
+        rule: Rule,
+        text: &'a [u8],
+    },
+    Admit {
+        text: &'a [u8],
+    },
+    Limiter {
+        rate: u8,
+        start: u64,
+    },
+    LimiterAllow {
+        now: u64,
+    },
+    Position {
+        start: u64,
+    },
+    PositionAllow {
+        now: u64,
+    },
+    PositionReset {
+        now: u64,
+    },
+    PositionSet {
+        position: u64,
+    },
     PositionGet,
 }
 

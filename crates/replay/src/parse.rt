@@ -8,10 +8,20 @@ ghost use Rattle.replay.specs.Forms.{measure-form, admit-form, limiterForm, po
 ghost use Rattle.replay.specs.Orders.{Order};
 ghost use Rattle.replay.specs.Rendering.{InRange, rendering};
 ghost use Rattle.replay.specs.Words.{choice};
-use crate::arguments::{peek, take_end, take_last_number, take_number, take_rate, take_rule, take_text};
-use crate::command::{Command, Fault};
+use crate::arguments::peek;
+use crate::arguments::take_end;
+use crate::arguments::take_last_number;
+use crate::arguments::take_number;
+use crate::arguments::take_rate;
+use crate::arguments::take_rule;
+use crate::arguments::take_text;
+use crate::command::Command;
+use crate::command::Fault;
 use crate::script::cut;
-use crate::words::{Choice, Verb, read_choice, read_verb};
+use crate::words::Choice;
+use crate::words::Verb;
+use crate::words::read_choice;
+use crate::words::read_verb;
 
 // The command that a line spells, or why it spells none.
 pub fn parse(line: &[u8]) -> Result<Command<'_>, Fault>

@@ -29,7 +29,13 @@ pub(crate) fn put_numbered(out: &mut Vec<u8>, name: &[u8], n: u64) -> Result<(),
     put_decimal(out, n)
 }
 
-pub(crate) fn put_two(out: &mut Vec<u8>, first: &[u8], m: u64, second: &[u8], n: u64) -> Result<(), AllocError>
+pub(crate) fn put_two(
+    out: &mut Vec<u8>,
+    first: &[u8],
+    m: u64,
+    second: &[u8],
+    n: u64,
+) -> Result<(), AllocError>
     ensures { λ r. ⌜ Appends ((now (first .entry) ++ decimal m) ++ (now (second .entry) ++ decimal n)) (vec-items (now (out .entry))) r (vec-items (now (out .exit))) ⌝ }
 {
     put_numbered(out, first, m)?;

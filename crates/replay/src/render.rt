@@ -10,9 +10,12 @@ ghost use Rattle.std.specs.Written.{decimal};
 ghost use Rattle.replay.specs.Appends.{Appends};
 ghost use Rattle.replay.specs.Orders.{named};
 ghost use Rattle.replay.specs.Rendering.{escapedByte, Rendered, Renders, RendersText};
-use crate::command::{Command, Rule};
+use crate::command::Command;
+use crate::command::Rule;
 use crate::escape::next_byte;
-use crate::put::{put, put_numbered, put_two};
+use crate::put::put;
+use crate::put::put_numbered;
+use crate::put::put_two;
 use std::alloc::AllocError;
 use std::alloc::Global;
 

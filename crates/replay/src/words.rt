@@ -49,7 +49,26 @@ fn is_later(name: &str) -> bool
 {
     matches!(
         name,
-        "terminal" | "engine" | "credit" | "insert" | "remove" | "mark" | "fill" | "bar" | "text" | "empty" | "done" | "align" | "cursor" | "draw" | "force" | "println" | "clear" | "op" | "state" | "screen"
+        "terminal"
+            | "engine"
+            | "credit"
+            | "insert"
+            | "remove"
+            | "mark"
+            | "fill"
+            | "bar"
+            | "text"
+            | "empty"
+            | "done"
+            | "align"
+            | "cursor"
+            | "draw"
+            | "force"
+            | "println"
+            | "clear"
+            | "op"
+            | "state"
+            | "screen"
     )
 }
 

@@ -8,7 +8,6 @@ use Rattle.replay.proofs.RoundTrip.{round}
 use Rattle.replay.proofs.Reading.{lifted-by, refused, limiter-opens, position-opens}
 use Rattle.replay.proofs.parse.parse.Needs as need
 
-
 pub returns-in-Measure : need.returns-in-Measure
 returns-in-Measure c = let arm = c .in-Measure .ensures tt in let h = lifted-by (c .measure .result) Measure measure-form (c .cut .ensures) (arm .is) refl (arm .named) (c .measure .ensures) in record { reads = h; round = round _ h }
 
