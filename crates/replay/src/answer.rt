@@ -1,4 +1,5 @@
 // Answers, and the trace of a run.
+ghost use mathlib.Core.List.{[], _∷_};
 ghost use Rattle.std.specs.Of.Vec.{vec-items};
 ghost use Rattle.replay.specs.Appends.{Appends};
 ghost use Rattle.replay.specs.Traces.{shown, traced};
@@ -45,7 +46,13 @@ pub fn trace(out: &mut Vec<u8>, line: &[u8], answer: &Answer) -> Result<(), Allo
 {
     put(out, b"> ")?;
     put(out, line)?;
-    put(out, b"\n")?;
+    end_line(out)?;
     show(out, answer)?;
+    end_line(out)
+}
+
+fn end_line(out: &mut Vec<u8>) -> Result<(), AllocError>
+    ensures { λ r. ⌜ Appends (10 ∷ []) (vec-items (now (out .entry))) r (vec-items (now (out .exit))) ⌝ }
+{
     put(out, b"\n")
 }
