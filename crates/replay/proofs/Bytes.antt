@@ -1,8 +1,8 @@
 -- The spellings of a byte, by what stands at each place.
 use mathlib.Core.Path.{_≡_, refl, sym, ap, subst, _∙_}
-use mathlib.Core.Bool.{true, false, cond}
+use mathlib.Core.Bool.{cond}
 use mathlib.Core.List.{List, [], _∷_, _++_}
-use Prim.Native.Nat.{ℕ, suc, zero, _+_, _*_, _-_, _<_, _≤_}
+use Prim.Native.Nat.{ℕ, _+_, _*_, _-_, _<_}
 use native.Mathlib.Omega.{arith}
 use lib.Dec.{eqb}
 use lib.ListN.{length, getD, take, drop}
@@ -10,7 +10,7 @@ use Rattle.std.specs.Orderings.{Decides}
 use Rattle.std.specs.Text.{digitValue}
 use Rattle.std.proofs.shelf.Lists.{take-rest, nil-from-length}
 use Rattle.std.proofs.shelf.Tests.{ne-eqb, eq-eqb, eqb-true}
-use Rattle.replay.specs.Escapes.{Hex, Byte, itself, backslash, newline, coded, NoByte, Spelt, none, more, Meant, WellFormed}
+use Rattle.replay.specs.Escapes.{Hex, Byte, itself, backslash, newline, coded, NoByte, Spelt, none, more, Meant, WellFormed, Means}
 
 -- no escape stands behind a backslash
 pub no-escape : (t : List ℕ) → (0 < length t → getD t 0 0 ≡ 92 → ⊥) → (0 < length t → getD t 0 0 ≡ 110 → ⊥)
@@ -83,6 +83,9 @@ no-byte-nil b rest p = omega (arith, byte-some p)
 
 pub meant-one : {s bs cs : List ℕ} → Meant s bs → Meant s cs → bs ≡ cs
 meant-one m n = spelt-one no-byte-nil no-byte-nil m n .0
+
+pub means-one : {s bs cs : List ℕ} → Means s bs → Means s cs → bs ≡ cs
+means-one m n = spelt-one (m .ends) (n .ends) (m .spelt) (n .spelt) .0
 
 pub spelt-push : {s bs t u : List ℕ} {b : ℕ} → Spelt s bs t → Byte t b u → Spelt s (bs ++ b ∷ []) u
 spelt-push none p = more p none

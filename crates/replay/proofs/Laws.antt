@@ -1,7 +1,7 @@
 -- A line spells one order at most, and none where it is faulty.
 use mathlib.Core.Path.{_≡_, refl, sym, ap, subst, _∙_}
 use mathlib.Core.List.{List, [], _∷_}
-use Prim.Native.Nat.{ℕ, _<_, _≤_}
+use Prim.Native.Nat.{ℕ}
 use native.Mathlib.Omega.{arith}
 use lib.Chars.{codes}
 use lib.ListN.{getD, drop}
@@ -15,13 +15,12 @@ use Rattle.replay.specs.declared.command.Rule.{Rule}
 use Rattle.replay.specs.declared.command.Rule.the-variants.{Plain, House}
 use Rattle.replay.specs.declared.words.Choice.the-variants.{Other}
 use Rattle.replay.specs.Cuts.{before, behind}
-use Rattle.replay.specs.Escapes.{WellFormed}
 use Rattle.replay.specs.Faults.{Wrong, no-number, no-rate, above, no-rule, Stops, missing, surplus, wrong, further, escape, Faulty, unknown, unsupported, argument}
-use Rattle.replay.specs.Forms.{Kind, a-word, a-number, a-rate, a-rule, a-text, kind, kinds, Form, measure-form, admit-form, limiter-form, limiter-allow-form, position-form, position-allow-form, position-reset-form, position-set-form, position-get-form, form, opening, arguments, head, formOf, due}
-use Rattle.replay.specs.Grammar.{Spelled, as-is, as-number, as-rate, as-rule, Phrase, end, tail, next, raw, Spells}
+use Rattle.replay.specs.Forms.{Kind, a-word, a-number, a-rate, a-rule, a-text, kind, kinds, Form, measure-form, admit-form, limiter-form, limiter-allow-form, position-form, position-allow-form, position-reset-form, position-set-form, position-get-form, form, opening, arguments, head, due}
+use Rattle.replay.specs.Grammar.{Spelled, as-is, as-number, as-rate, as-rule, Phrase, end, tail, next, Spells}
 use Rattle.replay.specs.Numbers.{Number}
 use Rattle.replay.specs.Orders.{Order, measure, admit, limiter, limiter-allow, position, position-allow, position-reset, position-set, position-get, Part, word, number, rate, rule, text, parts, named}
-use Rattle.replay.specs.Words.{verb, choice, choices}
+use Rattle.replay.specs.Words.{choice, choices}
 use Rattle.replay.proofs.Bytes.{meant-one}
 use Rattle.replay.proofs.Tables.{pick-none}
 

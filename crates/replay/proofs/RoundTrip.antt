@@ -1,13 +1,12 @@
 -- The canonical line of an order spells it.
-use mathlib.Core.Path.{_≡_, refl, sym, ap, subst, _∙_}
-use mathlib.Core.Bool.{Bool, true, false, not, cond, _&&_, _||_}
+use mathlib.Core.Path.{_≡_, refl, sym, subst}
+use mathlib.Core.Bool.{Bool, true, false, not, _&&_, _||_}
 use mathlib.Core.List.{List, [], _∷_, _++_}
-use mathlib.Core.Logic.{inl, inr, ⊎-elim}
-use Prim.Native.Nat.{ℕ, _+_, _*_, _/_, _%_, _^_, _<_, _≤_}
+use mathlib.Core.Logic.{⊎-elim}
+use Prim.Native.Nat.{ℕ, _+_, _*_, _/_, _%_, _^_, _<_}
 use native.Mathlib.Omega.{arith}
 use lib.Chars.{codes}
 use lib.Dec.{eqb, ltb, leb}
-use Rattle.std.specs.declared.option.Option.{Option}
 use Rattle.std.specs.declared.option.Option.the-variants.{Some, None}
 use Rattle.std.specs.declared.result.Result.{Result}
 use Rattle.std.specs.declared.result.Result.the-variants.{Ok, Err}
@@ -24,11 +23,11 @@ use Rattle.replay.specs.declared.command.Fault.{Fault}
 use Rattle.replay.specs.declared.command.Rule.{Rule}
 use Rattle.replay.specs.declared.command.Rule.the-variants.{Plain, House}
 use Rattle.replay.specs.Commands.{Says, Understood, Refused}
-use Rattle.replay.specs.Cuts.{before, behind, Cut}
+use Rattle.replay.specs.Cuts.{Cut}
 use Rattle.replay.specs.Escapes.{Hex, Byte, itself, backslash, newline, coded, none, more, Meant}
 use Rattle.replay.specs.Grammar.{Spelled, as-is, as-number, as-rate, as-rule, Phrase, end, tail, next, Spells}
 use Rattle.replay.specs.Numbers.{Number}
-use Rattle.replay.specs.Orders.{Order, measure, admit, limiter, limiter-allow, position, position-allow, position-reset, position-set, position-get, Part, word, number, rate, rule, text, parts, named}
+use Rattle.replay.specs.Orders.{Order, measure, admit, limiter, limiter-allow, position, position-allow, position-reset, position-set, position-get, Part, named}
 use Rattle.replay.specs.Rendering.{escapedByte, escaped, rendering, InRange}
 use Rattle.replay.proofs.Cutting.{cut-none, cut-past, cut-join}
 

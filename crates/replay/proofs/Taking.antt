@@ -1,21 +1,20 @@
 -- One word taken, and what follows from what was taken.
-use mathlib.Core.Path.{_≡_, refl, sym, ap, subst, _∙_}
-use mathlib.Core.List.{List, [], _∷_}
+use mathlib.Core.Path.{_≡_, sym, subst}
+use mathlib.Core.List.{List, _∷_}
 use Prim.Native.Nat.{ℕ, _<_, _≤_}
 use native.Mathlib.Omega.{arith}
 use Rattle.std.specs.declared.option.Option.{Option}
 use Rattle.std.specs.declared.option.Option.the-variants.{Some, None}
 use Rattle.std.specs.declared.result.Result.{Result}
 use Rattle.std.specs.Results.{Cases, ErrBy}
-use Rattle.std.proofs.shelf.Results.{err-from-errBy, cases-at-err}
+use Rattle.std.proofs.shelf.Results.{err-from-errBy}
 use Rattle.replay.specs.declared.command.Fault.{Fault}
-use Rattle.replay.specs.declared.command.Fault.the-variants.{Words, Rate, Escape}
+use Rattle.replay.specs.declared.command.Fault.the-variants.{Words, Rate}
 use Rattle.replay.specs.Arguments.{Took, Halts, no-word, wrong-word}
-use Rattle.replay.specs.Cuts.{before, behind, Cut}
-use Rattle.replay.specs.Escapes.{WellFormed}
-use Rattle.replay.specs.Faults.{Wrong, no-number, no-rate, above, no-rule, Stops, missing, surplus, wrong, further, escape}
-use Rattle.replay.specs.Forms.{Kind, a-word, a-number, a-rate, a-rule, a-text, kind}
-use Rattle.replay.specs.Grammar.{Spelled, as-is, as-number, as-rate, as-rule, Phrase, next, raw}
+use Rattle.replay.specs.Cuts.{Cut}
+use Rattle.replay.specs.Faults.{Wrong, no-number, no-rate, above, Stops, missing, wrong, further}
+use Rattle.replay.specs.Forms.{Kind, a-number, a-rate, a-rule, a-text, kind}
+use Rattle.replay.specs.Grammar.{Spelled, as-number, as-rate, Phrase, next}
 use Rattle.replay.specs.Orders.{Part, number, rate}
 
 pub number-is-word : a-number ≡ a-text → ⊥

@@ -1,7 +1,7 @@
 -- The faults of a line: the first thing from the left that is not as it is due.
 use mathlib.Core.Path.{_≡_}
 use mathlib.Core.List.{List, [], _∷_}
-use Prim.Native.Nat.{ℕ, _<_, _≤_}
+use Prim.Native.Nat.{ℕ, _<_}
 use Rattle.std.specs.declared.option.Option.{Option}
 use Rattle.std.specs.declared.option.Option.the-variants.{Some, None}
 use Rattle.replay.specs.declared.command.Fault.{Fault}
@@ -10,7 +10,7 @@ use Rattle.replay.specs.declared.command.Rule as rules
 use Rattle.replay.specs.declared.words.Verb.the-variants.{Later, Unknown as NoVerb}
 use Rattle.replay.specs.Cuts.{before, behind}
 use Rattle.replay.specs.Escapes.{WellFormed}
-use Rattle.replay.specs.Forms.{Kind, a-word, a-number, a-rate, a-rule, a-text, kind, Form, opening, arguments, due}
+use Rattle.replay.specs.Forms.{Kind, a-number, a-rate, a-rule, a-text, kind, Form, arguments, due}
 use Rattle.replay.specs.Grammar.{Spelled, raw}
 use Rattle.replay.specs.Numbers.{NoNumber, Number as IsNumber}
 use Rattle.replay.specs.Orders.{Part, named}

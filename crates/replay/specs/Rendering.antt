@@ -53,6 +53,7 @@ InRange position-get = Unit {0}
 pub record Rendered (c : Command) (bs : List ℕ) : Type 0 where
   pub order : Order
   pub says : Says c order
+  pub alone : (o : Order) → Says c o → o ≡ order
   pub line : bs ≡ rendering order
 
 -- from s to t, the command's line was appended

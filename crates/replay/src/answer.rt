@@ -9,7 +9,7 @@ use crate::put::put_two;
 use std::alloc::AllocError;
 
 // What a command answers.
-#[derive(Clone, Copy, Debug, PartialEq, Eq)]
+#[derive(Clone, Copy)]
 pub enum Answer {
     Ok,
     Refused { number: u8, place: Option<u64> },

@@ -1,13 +1,10 @@
 // The arguments of a command, taken from the left of what is left of a line.
 ghost use mathlib.Core.Path.{_≡_};
-ghost use mathlib.Core.List.{List, [], _∷_};
-ghost use Prim.Native.Nat.{ℕ};
+ghost use mathlib.Core.List.{[], _∷_};
 ghost use denote.Ref.{now as value};
-ghost use Rattle.std.specs.declared.option.Option.the-variants.{None};
 ghost use Rattle.std.specs.Options.{mapped};
 ghost use Rattle.std.specs.Results.{Cases};
 ghost use Rattle.replay.specs.Arguments.{Took, Halts};
-ghost use Rattle.replay.specs.Cuts.{Cut};
 ghost use Rattle.replay.specs.Escapes.{WellFormed};
 ghost use Rattle.replay.specs.Faults.{Stops};
 ghost use Rattle.replay.specs.Forms.{a-number, a-rate, a-rule, a-text, head, after};

@@ -3,7 +3,7 @@ ghost use mathlib.Core.Path.{_≡_};
 ghost use Rattle.replay.specs.Messages.{message};
 
 // How wide a character is taken to be.
-#[derive(Clone, Copy, Debug, PartialEq, Eq)]
+#[derive(Clone, Copy)]
 pub enum Rule {
     Plain,
     House,
@@ -43,7 +43,7 @@ pub enum Command<'a> {
 }
 
 // Why a line is no command.
-#[derive(Clone, Copy, Debug, PartialEq, Eq)]
+#[derive(Clone, Copy)]
 pub enum Fault {
     Unknown,
     Unsupported,

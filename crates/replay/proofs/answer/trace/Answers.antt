@@ -15,7 +15,7 @@ pub returns-in-Break-put-2 : need.returns-in-Break-put-2
 returns-in-Break-put-2 c =
     let r = c .from-residual-in-Break-put-2 in
     let shows : List ℕ = shown (c .args .answer .now) ++ 10 ∷ [] in
-    let stop = stopped-at _ _ _ (r .result) (r .ensures .0) (front-more (10 ∷ shows) (c .in-Break-put-2 .ensures tt)) in
+    let stop = stopped-at (c .args .line .now ++ 10 ∷ shows) (vec-items (c .put .last .out)) (vec-items (c .put-2 .last .out)) (r .result) (r .ensures .0) (front-more (10 ∷ shows) (c .in-Break-put-2 .ensures tt)) in
     and-then (codes "> ") (c .args .line .now ++ 10 ∷ shows) (vec-items (c .args .out .now)) (vec-items (c .put .last .out)) (vec-items (c .put-2 .last .out)) (r .result) (c .in-Continue-put .ensures tt) stop
 
 pub returns-in-Break-end-line : need.returns-in-Break-end-line
@@ -24,7 +24,7 @@ returns-in-Break-end-line c =
     let shows : List ℕ = shown (c .args .answer .now) ++ 10 ∷ [] in
     let line : List ℕ = c .args .line .now in
     let end = vec-items (c .end-line .last .out) in
-    let stop = stopped-at _ _ _ (r .result) (r .ensures .0) (front-more shows (c .in-Break-end-line .ensures tt)) in
+    let stop = stopped-at (10 ∷ shows) (vec-items (c .put-2 .last .out)) end (r .result) (r .ensures .0) (front-more shows (c .in-Break-end-line .ensures tt)) in
     let behind = and-then line (10 ∷ shows) (vec-items (c .put .last .out)) (vec-items (c .put-2 .last .out)) end (r .result) (c .in-Continue-put-2 .ensures tt) stop in
     and-then (codes "> ") (line ++ 10 ∷ shows) (vec-items (c .args .out .now)) (vec-items (c .put .last .out)) end (r .result) (c .in-Continue-put .ensures tt) behind
 
@@ -34,7 +34,7 @@ returns-in-Break-show c =
     let shows : List ℕ = shown (c .args .answer .now) ++ 10 ∷ [] in
     let line : List ℕ = c .args .line .now in
     let end = vec-items (c .show .last .out) in
-    let stop = stopped-at _ _ _ (r .result) (r .ensures .0) (front-more (10 ∷ []) (c .in-Break-show .ensures tt)) in
+    let stop = stopped-at shows (vec-items (c .end-line .last .out)) end (r .result) (r .ensures .0) (front-more (10 ∷ []) (c .in-Break-show .ensures tt)) in
     let last = and-then (10 ∷ []) shows (vec-items (c .put-2 .last .out)) (vec-items (c .end-line .last .out)) end (r .result) (c .in-Continue-end-line .ensures tt) stop in
     let behind = and-then line (10 ∷ shows) (vec-items (c .put .last .out)) (vec-items (c .put-2 .last .out)) end (r .result) (c .in-Continue-put-2 .ensures tt) last in
     and-then (codes "> ") (line ++ 10 ∷ shows) (vec-items (c .args .out .now)) (vec-items (c .put .last .out)) end (r .result) (c .in-Continue-put .ensures tt) behind

@@ -1,8 +1,8 @@
 use native.Mathlib.Omega.{arith}
 use mathlib.Core.Path.{_≡_}
 use mathlib.Core.List.{List}
-use Prim.Native.Nat.{ℕ, _<_}
-use lib.ListN.{getD, length}
+use Prim.Native.Nat.{ℕ}
+use lib.ListN.{getD}
 use borrow.Author.Needs.{needs}
 use Rattle.replay.proofs.Bytes.{backslash-at, newline-at, coded-at, no-escape}
 use Rattle.replay.proofs.escape.escape.Needs as need

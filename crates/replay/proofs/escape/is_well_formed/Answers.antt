@@ -1,5 +1,4 @@
 use mathlib.Core.List.{[]}
-use borrow.Author.Needs.{needs}
 use Rattle.std.proofs.shelf.Ways.{decides-at}
 use Rattle.replay.specs.Escapes.{none}
 use Rattle.replay.proofs.Bytes.{byte-less, spelt-push, well-formed-is}

@@ -16,8 +16,13 @@ returns-then-n-lt10 t c =
 
 pub returns-in-Break-put-decimal : need.returns-in-Break-put-decimal
 returns-in-Break-put-decimal t c =
-    let step = decimal-step (c .args .n) (omega arith) (search needs) in
-    subst (λ (l : List ℕ). Appends l (vec-items (c .args .out .now)) (c .from-residual .result) (vec-items (c .put-decimal .last .out))) (sym step) (stopped-at _ _ _ (c .from-residual .result) (c .from-residual .ensures .0) (front-more _ (c .in-Break-put-decimal .ensures tt)))
+    let n : ℕ = c .args .n in
+    let last : List ℕ = (48 + n % 10) ∷ [] in
+    let step = decimal-step n (omega arith) (search needs) in
+    let r = c .from-residual .result in
+    let s = vec-items (c .args .out .now) in
+    let v = vec-items (c .put-decimal .last .out) in
+    subst (λ (l : List ℕ). Appends l s r v) (sym step) (stopped-at (decimal (n / 10) ++ last) s v r (c .from-residual .ensures .0) (front-more last (c .in-Break-put-decimal .ensures tt)))
 
 pub returns : need.returns
 returns t c =

@@ -1,4 +1,4 @@
-use mathlib.Core.Path.{sym, ap, _∙_}
+use mathlib.Core.Path.{_≡_, sym, ap, _∙_}
 use mathlib.Core.List.{List, [], _∷_, _++_, append-nil, append-assoc}
 use Prim.Native.Nat.{ℕ}
 use Rattle.std.specs.Of.Vec.{vec-items}
@@ -19,7 +19,7 @@ loop-b-again c =
     let b : ℕ = c .in-Some .b in
     let inv = c .loop-b .inv in
     let bs : List ℕ = inv .0 in
-    let added = c .in-Continue-put-byte .ensures tt ∙ ap (λ l. l ++ escapedByte b) (inv .1) ∙ joined-more escapedByte (vec-items (c .put .last .out)) bs b in
+    let added : vec-items (c .put-byte .last .out) ≡ vec-items (c .put .last .out) ++ escaped (bs ++ b ∷ []) = c .in-Continue-put-byte .ensures tt ∙ ap (λ l. l ++ escapedByte b) (inv .1) ∙ joined-more escapedByte (vec-items (c .put .last .out)) bs b in
     (bs ++ b ∷ [], added, spelt-push (inv .2) (c .in-Some .ensures tt))
 
 pub returns : need.returns

@@ -1,8 +1,6 @@
 use native.Mathlib.Omega.{arith}
 use native.Mathlib.Numerals.{add-one}
 use native.Mathlib.Nat.{sub-zero}
-use lib.ListN.{length}
-use borrow.Author.Needs.{needs}
 use Rattle.std.proofs.shelf.Lists.{take-rest}
 use Rattle.replay.proofs.Cutting.{cut-found, cut-nowhere}
 use Rattle.replay.proofs.script.cut.Needs as need
