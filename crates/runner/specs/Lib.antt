@@ -1,0 +1,5 @@
+pub mod Answers
+pub mod Runs
+pub mod Stops
+pub mod Reasons
+pub mod Tallies

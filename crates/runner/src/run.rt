@@ -1,0 +1,43 @@
+// Replays a script line by line.
+ghost use mathlib.Core.Path.{_≡_};
+ghost use mathlib.Core.List.{_++_};
+ghost use Rattle.std.specs.Of.Vec.{vec-items};
+ghost use Rattle.std.specs.Results.{Cases};
+ghost use Rattle.replay.specs.Traces.{traced};
+ghost use Rattle.runner.specs.Answers.{state};
+ghost use Rattle.runner.specs.Runs.{Played, Ran, complete};
+ghost use Rattle.runner.specs.Stops.{Halted, Stopped};
+ghost use Rattle.runner.specs.Tallies.{tally, counted-in};
+use crate::rack::Rack;
+use crate::rack::written;
+use crate::stop::Halt;
+use crate::stop::Stop;
+use crate::summary::Summary;
+use replay::answer::Answer;
+use replay::answer::trace;
+use replay::escape::unescape;
+use replay::parse::parse;
+use replay::script::is_skipped;
+use replay::script::next_line;
+use std::alloc::Global;
+
+// Answers one line, and appends its trace.
+pub fn play(rack: &mut Rack, heap: Global, line: &[u8], out: &mut Vec<u8>) -> Result<Answer, Halt>
+    ensures { λ r. ⌜ Cases r (λ a. Played (state (now (rack .entry))) (now (line .entry)) a (state (now (rack .exit))) × (vec-items (now (out .exit)) ≡ vec-items (now (out .entry)) ++ traced (now (line .entry)) a)) (λ e. Halted (state (now (rack .entry))) (now (line .entry)) (state (now (rack .exit))) (vec-items (now (out .entry))) (vec-items (now (out .exit))) e) ⌝ }
+{
+    let command = match parse(line) {
+        Ok(command) => command,
+        Err(fault) => return Err(Halt::Fault(fault)),
+    };
+    let mut text = Vec::new(heap);
+    let Ok(()) = unescape(written(&command), &mut text) else {
+        return Err(Halt::Memory);
+    };
+    let Some(answer) = rack.perform(&command, &text) else {
+        return Err(Halt::Missing);
+    };
+    match trace(out, line, &answer) {
+        Ok(()) => Ok(answer),
+        Err(_) => Err(Halt::Memory),
+    }
+}
