@@ -4,7 +4,7 @@
 The trace is computed here, by a reference that shares nothing with the crates: Python's own UTF-8 decoder,
 a regular expression for colour sequences, and the rules of measure and of the limiters written out once more.
 
-    python3 compare/vectors.py            writes crates/vectors/data/*.rack and crates/vectors/stdout
+    python3 compare/vectors.py            writes crates/vectors/data/*.rack, crates/vectors/stdout and crates/rack/stdout
     python3 compare/vectors.py --check    compares them; status 1 where one differs
 """
 
@@ -13,6 +13,7 @@ import sys
 from pathlib import Path
 
 CRATE = Path(__file__).resolve().parent.parent / "crates" / "vectors"
+RACK = CRATE.parent / "rack"
 LAST = 2**64 - 1
 MS = 1_000_000
 SECOND = 1000 * MS
@@ -59,17 +60,17 @@ RULES = {"plain": plain, "house": house}
 
 
 def admit(text):
-    return "refused 6 at 0" if characters(text) is None else "ok"
+    return "refused 6" if characters(text) is None else "ok"
 
 
 def measure(width, rule, text):
     if not 2 <= width <= 512:
         return "refused 1"
     if len(text) > 128:
-        return "refused 7 at 0"
+        return "refused 7"
     kept = characters(text)
     if kept is None:
-        return "refused 6 at 0"
+        return "refused 6"
     rows, column = 1, 0
     for c in kept:
         w = RULES[rule](ord(c))
@@ -210,6 +211,12 @@ def trace(script):
     return b"".join(b"> %s\n%s\n" % (line, answer.encode()) for line, answer in replay(script))
 
 
+def summary(script):
+    answers = [answer for _, answer in replay(script)]
+    refused = sum(answer.startswith("refused") for answer in answers)
+    return b"--\ncommands %d\nrefused %d\n" % (len(answers), refused)
+
+
 # ---- Writing scripts
 
 
@@ -261,7 +268,7 @@ class Script:
         self.expected.append(expect)
 
     def admit(self, text, expect=None, **how):
-        known = None if expect is None else "ok" if expect else "refused 6 at 0"
+        known = None if expect is None else "ok" if expect else "refused 6"
         self.put(b"admit " + spell(text, **how), known)
 
     def measure(self, width, rule, text, expect=None, **how):
@@ -306,7 +313,7 @@ def utf8_rack():
     s.note("Control code points: U+0000 to U+001F, U+007F, U+0080 to U+009F. U+0020, U+007E and U+00A0 are none.")
     for c in range(32):
         s.admit(u(c), False)
-    s.put("admit \\n", "refused 6 at 0")
+    s.put("admit \\n", "refused 6")
     for c in range(0x7F, 0xA0):
         s.admit(u(c), False)
     for c in [0x20, 0x7E, 0xA0, 0xAD]:
@@ -418,7 +425,7 @@ def utf8_rack():
     for i, text in enumerate(samples):
         s.measure(3, ["house", "plain"][i % 2], text.encode(), raw=i % 2 == 1, upper=i % 4 == 2)
     for octets in ["80", "c3", "c080", "e09fbf", "eda080", "f08fbfbf", "f4908080", "fe", "c280", "c29f", "7f"]:
-        s.measure(10, "plain", b"ab" + bytes.fromhex(octets), "refused 6 at 0")
+        s.measure(10, "plain", b"ab" + bytes.fromhex(octets), "refused 6")
     for c in [0x7FF, 0x800, 0xD7FF, 0xE000, 0xFFFF, 0x10000, 0x10FFFF]:
         s.measure(2, "house", u(c) * 3, "rows 2 column 1")
     return s.finished()
@@ -469,7 +476,7 @@ def colour_rack():
         s.admit(text, True)
     for text in [ESC, ESC + b"[", ESC + b"[3", ESC + b"[3;", ESC + b"[ ", ESC + b"[3 "]:
         s.admit(text, False)
-        s.measure(10, "plain", b"ab" + text, "refused 6 at 0")
+        s.measure(10, "plain", b"ab" + text, "refused 6")
 
     s.note("Whole sequences: no parameters, few, many, each parameter byte, each intermediate byte.")
     whole = [
@@ -481,9 +488,9 @@ def colour_rack():
 
     s.note("Long ones: 128 bytes and 129, and beyond what measure takes.")
     s.measure(2, "plain", ESC + b"[" + b"1" * 125 + b"m", "rows 1 column 0")
-    s.measure(2, "plain", ESC + b"[" + b"1" * 126 + b"m", "refused 7 at 0")
+    s.measure(2, "plain", ESC + b"[" + b"1" * 126 + b"m", "refused 7")
     s.measure(2, "plain", ESC + b"[" + b" " * 125 + b"m", "rows 1 column 0")
-    s.measure(2, "plain", ESC + b"[" + b"1" * 126, "refused 6 at 0")
+    s.measure(2, "plain", ESC + b"[" + b"1" * 126, "refused 6")
     s.admit(ESC + b"[" + b"1;" * 150 + b"m", True)
     s.admit(ESC + b"[" + b"1;" * 150 + b"n", False)
 
@@ -530,7 +537,7 @@ def colour_rack():
     s.note("The C1 introducer U+009B opens nothing, nor does the octet 9b.")
     for text in [u(0x9B) + b"31m", u(0x9B), b"\x9b31m", b"a" + u(0x9B) + b"mb"]:
         s.admit(text, False)
-    s.measure(10, "plain", u(0x9B) + b"0m", "refused 6 at 0")
+    s.measure(10, "plain", u(0x9B) + b"0m", "refused 6")
 
     s.note("A sequence between the octets of a character, a fault inside a sequence, a fault behind one.")
     for text in [b"\xc3" + red + b"\xa9", b"\xe4\xb8" + off + b"\xad", red + b"\x80", off + b"\xff", b"\xc3" + red]:
@@ -576,18 +583,18 @@ def measure_rack():
     s.note("The least and the greatest length, in bytes of any character.")
     for n, column in [(1, 1), (127, 7), (128, 8)]:
         s.measure(10, "plain", b"a" * n, f"rows {(n + 9) // 10} column {column}")
-    s.measure(10, "plain", b"a" * 129, "refused 7 at 0")
-    s.measure(10, "plain", b"a" * 300, "refused 7 at 0")
+    s.measure(10, "plain", b"a" * 129, "refused 7")
+    s.measure(10, "plain", b"a" * 300, "refused 7")
     s.measure(512, "plain", b"a" * 128, "rows 1 column 128")
     s.measure(10, "plain", e * 64, "rows 7 column 4")
-    s.measure(10, "plain", e * 64 + b"a", "refused 7 at 0")
+    s.measure(10, "plain", e * 64 + b"a", "refused 7")
     s.measure(10, "house", han * 42 + b"ab", "rows 9 column 6")
     s.measure(10, "house", han * 42 + e, "rows 9 column 5")
-    s.measure(10, "house", han * 43, "refused 7 at 0")
+    s.measure(10, "house", han * 43, "refused 7")
     s.measure(10, "plain", u(0x1F600) * 32, "rows 4 column 2")
-    s.measure(10, "plain", u(0x1F600) * 32 + b"a", "refused 7 at 0")
+    s.measure(10, "plain", u(0x1F600) * 32 + b"a", "refused 7")
     s.measure(2, "house", b"\\" * 128, "rows 64 column 2")
-    s.measure(2, "house", b"\\" * 129, "refused 7 at 0")
+    s.measure(2, "house", b"\\" * 129, "refused 7")
 
     s.note("Refusals by 1 before 7 before 6.")
     faulty, long, both = b"\xff", b"a" * 129, b"\xff" * 129
@@ -596,17 +603,17 @@ def measure_rack():
             s.measure(width, "plain", text, "refused 1")
     for width in [2, 3, 10, 511, 512]:
         s.measure(width, "house", b"a", "rows 1 column 1")
-        s.measure(width, "house", long, "refused 7 at 0")
-        s.measure(width, "house", faulty, "refused 6 at 0")
-        s.measure(width, "house", both, "refused 7 at 0")
+        s.measure(width, "house", long, "refused 7")
+        s.measure(width, "house", faulty, "refused 6")
+        s.measure(width, "house", both, "refused 7")
     for width in [1000, 65536 + 10, 2**32 + 10, 2**63 + 10]:
         s.measure(width, "plain", b"a", "refused 1")
     s.measure(0, "house", b"", "refused 1")
     s.measure(513, "house", b"", "refused 1")
-    s.measure(10, "house", b"a" * 128 + b"\x1b", "refused 7 at 0")
-    s.measure(10, "house", b"a" * 127 + b"\x1b", "refused 6 at 0")
-    s.measure(10, "house", b"a" * 126 + b"\xc3\x28", "refused 6 at 0")
-    s.measure(10, "house", b"a\nb", "refused 6 at 0")
+    s.measure(10, "house", b"a" * 128 + b"\x1b", "refused 7")
+    s.measure(10, "house", b"a" * 127 + b"\x1b", "refused 6")
+    s.measure(10, "house", b"a" * 126 + b"\xc3\x28", "refused 6")
+    s.measure(10, "house", b"a\nb", "refused 6")
     s.put("measure 0010 plain abc", "rows 1 column 3")
     s.put("measure 00002 plain  ab", "rows 2 column 1")
 
@@ -655,7 +662,7 @@ def measure_rack():
     s.measure(2, "house", acute * 64, "rows 1 column 0")
     s.measure(2, "house", acute * 63 + b"ab", "rows 1 column 2")
     s.measure(2, "plain", acute * 64, "rows 32 column 2")
-    s.measure(2, "house", acute * 64 + b"a", "refused 7 at 0")
+    s.measure(2, "house", acute * 64 + b"a", "refused 7")
 
     s.note("House against Plain on the same text.")
     samples = ["日本語テキスト", "한글 시험", "ｆｕｌｌ", "e\u0301a\u0300", "\u1100\u1161\u11a8"]
@@ -907,6 +914,13 @@ def limiters_rack():
 # ---- The files
 
 
+def demonstration():
+    """The script that `rack` has built in, out of its source."""
+    source = (RACK / "src" / "demonstration.rt").read_text()
+    literal = re.search(r'DEMONSTRATION: &str =\s*"(.*?)";', source, re.S).group(1)
+    return literal.replace("\\\\", "\\").encode()
+
+
 def files():
     scripts = {
         "utf8.rack": utf8_rack(),
@@ -916,6 +930,8 @@ def files():
     }
     out = {CRATE / "data" / name: script for name, script in scripts.items()}
     out[CRATE / "stdout"] = b"".join(b"== %s\n%s" % (name.encode(), trace(script)) for name, script in scripts.items())
+    shown = demonstration()
+    out[RACK / "stdout"] = trace(shown) + summary(shown)
     return out
 
 

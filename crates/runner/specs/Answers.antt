@@ -9,7 +9,7 @@ use Rattle.std.specs.declared.option.Option.{Option}
 use Rattle.std.specs.declared.option.Option.the-variants.{Some, None}
 use Rattle.text.specs.declared.metrics.Metrics.{Metrics}
 use Rattle.text.specs.Width.{plain, house}
-use Rattle.text.specs.Outcomes.{admission-number, measure-number, measured, first-line}
+use Rattle.text.specs.Outcomes.{admission-number, measure-number, measured}
 use Rattle.limiter.specs.Ration as rations
 use Rattle.limiter.specs.Standing as standings
 use Rattle.replay.specs.declared.answer.Answer.{Answer}
@@ -34,9 +34,9 @@ state r = record { limiter = mapped rations.ration (r .limiter); position = mapp
 abbrev pub nothing : State
 nothing = record { limiter = None; position = None }
 
--- a refusal by its number, which 6 and 7 follow with the line
+-- a refusal by its number alone
 abbrev pub refusal : ℕ → Answer
-refusal n = answers.Refused n (first-line n)
+refusal n = answers.Refused n None
 
 abbrev pub plain-answer : ℕ → Answer
 plain-answer n = cond (eqb n 0) answers.Ok (refusal n)

@@ -4,8 +4,8 @@ ghost use mathlib.Core.Bool.{cond};
 ghost use Prim.Native.Nat.{ℕ};
 ghost use lib.Dec.{eqb};
 ghost use Rattle.std.specs.Options.{Cases, mapped};
-ghost use Rattle.std.specs.declared.option.Option.the-variants.{Some};
-ghost use Rattle.refusal.specs.Numbers.{number as numbered, place as placed, code, beside};
+ghost use Rattle.std.specs.declared.option.Option.the-variants.{Some, None};
+ghost use Rattle.refusal.specs.Numbers.{number as numbered};
 ghost use Rattle.replay.specs.declared.answer.Answer.the-variants as answers;
 ghost use Rattle.text.specs.Outcomes.{admission-number, measure-number, measured, Measured};
 ghost use Rattle.limiter.specs.Ration as rations;
@@ -24,13 +24,13 @@ use text::width::HouseWidth;
 use text::width::Plain;
 use text::width::PlainWidth;
 
-// How an answer tells of a refusal.
+// How these calls tell of a refusal: with one line at most, its index is left out.
 fn refused(refusal: Refusal) -> Answer
-    ensures { λ r. ⌜ r ≡ answers.Refused (numbered refusal) (placed refusal) ⌝ }
+    ensures { λ r. ⌜ r ≡ answers.Refused (numbered refusal) None ⌝ }
 {
     Answer::Refused {
         number: refusal.number(),
-        place: refusal.place(),
+        place: None,
     }
 }
 

@@ -41,3 +41,24 @@ pub fn play(rack: &mut Rack, heap: Global, line: &[u8], out: &mut Vec<u8>) -> Re
         Err(_) => Err(Halt::Memory),
     }
 }
+
+// Answers the lines of a script in turn on a rack where nothing stands yet, and appends their trace.
+pub fn replay(heap: Global, script: &[u8], out: &mut Vec<u8>) -> Result<Summary, Stop>
+    ensures { λ r. ⌜ Cases r (λ k. Ran (now (script .entry)) (vec-items (now (out .entry))) (vec-items (now (out .exit))) (tally k) complete) (λ s. Stopped (now (script .entry)) (vec-items (now (out .entry))) (vec-items (now (out .exit))) s) ⌝ }
+{
+    let mut rack = Rack::new();
+    let mut summary = Summary::new();
+    let mut number = 0u64;
+    let mut rest = script;
+    while let Some((line, tail)) = next_line(rest) {
+        number += 1;
+        if !is_skipped(line) {
+            match play(&mut rack, heap, line, out) {
+                Ok(answer) => summary = summary.count(&answer),
+                Err(halt) => return Err(Stop { line: number, halt }),
+            }
+        }
+        rest = tail;
+    }
+    Ok(summary)
+}
