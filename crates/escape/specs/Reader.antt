@@ -21,7 +21,7 @@ parameter c = within 48 63 c
 abbrev pub intermediate : ℕ → Bool
 intermediate c = within 32 47 c
 
--- the final byte of 'select graphic rendition' (SGR), 'm'
+-- 'm', which ends a colour sequence: without intermediate bytes it is 'select graphic rendition' (SGR)
 abbrev pub final : ℕ → Bool
 final c = eqb c 109
 

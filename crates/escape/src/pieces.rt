@@ -60,8 +60,10 @@ impl<'a> AnsiCodeIterator<'a> {
     }
 }
 
-impl<'a> Iterator for AnsiCodeIterator<'a> as AnsiCodes {
+pub impl<'a> Iterator for AnsiCodeIterator<'a> as AnsiCodes {
     type Item = Piece<'a>;
+
+    ghost steps = { λ s r t. (t .line ≡ s .line) × Cases r (s .at ≡ length (value (s .line))) (λ p. Cut (value (s .line)) (s .at) (t .at) (view p)) };
 
     ghost ends = { λ _. Unit {0} };
 

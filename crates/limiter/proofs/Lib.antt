@@ -1,3 +1,4 @@
 pub mod Intervals
 pub mod Rationing
 pub mod Pacing
+pub mod Examples

@@ -18,7 +18,7 @@ bytes (Text text) = text .now
 bytes (Bar text) = text .now
 bytes Empty = []
 
--- the number of the first line's refusal that is refused, or 0
+-- the number by which the first line is refused that is refused, or 0
 abbrev pub count-number : ℕ → List LineType → ℕ
 count-number W [] = 0
 count-number W (l ∷ ls) = cond (eqb (measure-number W (bytes l)) 0) (count-number W ls) (measure-number W (bytes l))

@@ -1,11 +1,10 @@
 -- Which text may be written, and what its characters are.
 use mathlib.Core.Path.{_≡_}
-use mathlib.Core.Bool.{Bool, true, false, _&&_}
-use mathlib.Core.List.{List, [], _∷_}
+use mathlib.Core.Bool.{Bool, true, _&&_}
+use mathlib.Core.List.{List}
 use Prim.Native.Nat.{ℕ}
-use lib.Dec.{eqb}
 use lib.Utf8.{encodes, scalars}
-use Rattle.std.specs.shelf.Text.{decodes}
+use Rattle.std.specs.shelf.Text.{decodes, sameBytes}
 use Rattle.utf8.specs.Rfc.{Spells}
 use Rattle.escape.specs.Grammar.{Clean}
 use Rattle.escape.specs.Reading.{accepts, letters}
@@ -18,15 +17,9 @@ pub record Text (bs xs : List ℕ) : Type 0 where
   pub clean : Clean codes xs
 
 -- ---- the same, computed
-abbrev pub same : List ℕ → List ℕ → Bool
-same [] [] = true
-same [] (y ∷ ys) = false
-same (x ∷ xs) [] = false
-same (x ∷ xs) (y ∷ ys) = eqb x y && same xs ys
-
 -- bs is what the scalar values encode that it decodes to
 abbrev pub utf8 : List ℕ → Bool
-utf8 bs = scalars (decodes bs) && same (encodes (decodes bs)) bs
+utf8 bs = scalars (decodes bs) && sameBytes (encodes (decodes bs)) bs
 
 unfoldable pub admissible : List ℕ → Bool
 admissible bs = utf8 bs && accepts Ground (decodes bs)
