@@ -14,14 +14,14 @@ use Rattle.replay.specs.declared.command.Fault.{Fault}
 use Rattle.replay.specs.declared.command.Rule.{Rule}
 use Rattle.replay.specs.declared.command.Rule.the-variants.{Plain, House}
 use Rattle.replay.specs.declared.words.Choice.the-variants.{Other}
-use Rattle.replay.specs.Cuts.{before, behind}
+use Rattle.script.specs.Cuts.{before, behind}
 use Rattle.replay.specs.Faults.{Wrong, no-number, no-rate, above, no-rule, Stops, missing, surplus, wrong, further, escape, Faulty, unknown, unsupported, argument}
 use Rattle.replay.specs.Forms.{Kind, a-word, a-number, a-rate, a-rule, a-text, kind, kinds, Form, measure-form, admit-form, limiter-form, limiter-allow-form, position-form, position-allow-form, position-reset-form, position-set-form, position-get-form, form, opening, arguments, head, due}
 use Rattle.replay.specs.Grammar.{Spelled, as-is, as-number, as-rate, as-rule, Phrase, end, tail, next, Spells}
-use Rattle.replay.specs.Numbers.{Number}
+use Rattle.script.specs.Numbers.{Number}
 use Rattle.replay.specs.Orders.{Order, measure, admit, limiter, limiter-allow, position, position-allow, position-reset, position-set, position-get, Part, word, number, rate, rule, text, parts, named}
 use Rattle.replay.specs.Words.{choice, choices}
-use Rattle.replay.proofs.Bytes.{meant-one}
+use Rattle.script.proofs.Bytes.{meant-one}
 use Rattle.replay.proofs.Tables.{pick-none}
 
 -- a number is none of the words

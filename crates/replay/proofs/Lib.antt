@@ -1,6 +1,3 @@
-pub mod Appending
-pub mod Bytes
-pub mod Cutting
 pub mod Laws
 pub mod Reading
 pub mod Renders

@@ -17,13 +17,13 @@ use Rattle.replay.specs.declared.words.Choice.{Choice}
 use Rattle.replay.specs.declared.words.Choice.the-variants.{Allow, Reset, Set, Get, Other}
 use Rattle.replay.specs.Arguments.{Took}
 use Rattle.replay.specs.Commands.{Says, Read, Reads, Understood, Refused}
-use Rattle.replay.specs.Cuts.{before, Cut}
-use Rattle.replay.specs.Escapes.{WellFormed, Means}
+use Rattle.script.specs.Cuts.{before, Cut}
+use Rattle.script.specs.Escapes.{WellFormed, Means}
 use Rattle.replay.specs.Faults.{Stops, Faulty, argument}
 use Rattle.replay.specs.Forms.{Form, limiter-form, form, opening, arguments, head, after, limiterForm, positionForm, formOf, due}
 use Rattle.replay.specs.Grammar.{as-is, Phrase, next, Spells}
 use Rattle.replay.specs.Orders.{Order, word, parts}
-use Rattle.replay.proofs.Bytes.{no-byte-nil}
+use Rattle.script.proofs.Bytes.{no-byte-nil}
 use Rattle.replay.specs.Words.{verb, choice}
 use Rattle.replay.proofs.Laws.{parted, unique, faulty-spells}
 use Rattle.replay.proofs.Taking.{passed}

@@ -10,10 +10,10 @@ use Rattle.std.specs.Written.{decimal}
 use Rattle.replay.specs.declared.command.Command.{Command}
 use Rattle.replay.specs.declared.command.Command.the-variants.{Measure, Admit}
 use Rattle.replay.specs.declared.command.Rule.{Rule}
-use Rattle.replay.specs.Appends.{Appends}
+use Rattle.trace.specs.Appends.{Appends}
 use Rattle.replay.specs.Commands.{Says, a-measure, an-admit, a-limiter, a-limiter-allow, a-position, a-position-allow, a-position-reset, a-position-set, a-position-get}
 use Rattle.replay.specs.Orders.{Order, measure, admit, named}
-use Rattle.replay.proofs.Bytes.{means-one}
+use Rattle.script.proofs.Bytes.{means-one}
 use Rattle.replay.specs.Rendering.{escaped, rendering, Renders, RendersText}
 
 -- a command says one order

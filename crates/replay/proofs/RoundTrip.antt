@@ -23,13 +23,13 @@ use Rattle.replay.specs.declared.command.Fault.{Fault}
 use Rattle.replay.specs.declared.command.Rule.{Rule}
 use Rattle.replay.specs.declared.command.Rule.the-variants.{Plain, House}
 use Rattle.replay.specs.Commands.{Says, Understood, Refused}
-use Rattle.replay.specs.Cuts.{Cut}
-use Rattle.replay.specs.Escapes.{Hex, Byte, itself, backslash, newline, coded, none, more, Meant}
+use Rattle.script.specs.Cuts.{Cut}
+use Rattle.script.specs.Escapes.{Hex, Byte, itself, backslash, newline, coded, none, more, Meant}
 use Rattle.replay.specs.Grammar.{Spelled, as-is, as-number, as-rate, as-rule, Phrase, end, tail, next, Spells}
-use Rattle.replay.specs.Numbers.{Number}
+use Rattle.script.specs.Numbers.{Number}
 use Rattle.replay.specs.Orders.{Order, measure, admit, limiter, limiter-allow, position, position-allow, position-reset, position-set, position-get, Part, named}
 use Rattle.replay.specs.Rendering.{escapedByte, escaped, rendering, InRange}
-use Rattle.replay.proofs.Cutting.{cut-none, cut-past, cut-join}
+use Rattle.script.proofs.Cutting.{cut-none, cut-past, cut-join}
 
 abbrev Solid : List ℕ → Type 0
 Solid w = All (λ b. b ≡ 32 → ⊥) w

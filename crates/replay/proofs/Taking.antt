@@ -11,7 +11,7 @@ use Rattle.std.proofs.shelf.Results.{err-from-errBy}
 use Rattle.replay.specs.declared.command.Fault.{Fault}
 use Rattle.replay.specs.declared.command.Fault.the-variants.{Words, Rate}
 use Rattle.replay.specs.Arguments.{Took, Halts, no-word, wrong-word}
-use Rattle.replay.specs.Cuts.{Cut}
+use Rattle.script.specs.Cuts.{Cut}
 use Rattle.replay.specs.Faults.{Wrong, no-number, no-rate, above, Stops, missing, wrong, further}
 use Rattle.replay.specs.Forms.{Kind, a-number, a-rate, a-rule, a-text, kind}
 use Rattle.replay.specs.Grammar.{Spelled, as-number, as-rate, Phrase, next}

@@ -6,7 +6,7 @@ use Rattle.std.specs.declared.option.Option.{Option}
 use Rattle.std.specs.declared.option.Option.the-variants.{Some, None}
 use Rattle.replay.specs.declared.command.Fault.{Fault}
 use Rattle.replay.specs.declared.command.Fault.the-variants.{Words}
-use Rattle.replay.specs.Cuts.{before, behind}
+use Rattle.script.specs.Cuts.{before, behind}
 use Rattle.replay.specs.Faults.{Wrong}
 use Rattle.replay.specs.Forms.{Kind, a-text}
 use Rattle.replay.specs.Grammar.{Spelled}

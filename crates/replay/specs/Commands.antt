@@ -11,7 +11,7 @@ use Rattle.replay.specs.declared.command.Rule as rules
 use Rattle.replay.specs.declared.command.Fault.{Fault}
 use Rattle.replay.specs.declared.command.Command.{Command}
 use Rattle.replay.specs.declared.command.Command.the-variants.{Measure, Admit, Limiter, LimiterAllow, Position, PositionAllow, PositionReset, PositionSet, PositionGet}
-use Rattle.replay.specs.Escapes.{Means}
+use Rattle.script.specs.Escapes.{Means}
 use Rattle.replay.specs.Faults.{Stops, Faulty}
 use Rattle.replay.specs.Forms.{Form, form, arguments}
 use Rattle.replay.specs.Grammar.{Phrase, Spells}

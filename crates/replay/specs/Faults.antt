@@ -8,11 +8,11 @@ use Rattle.replay.specs.declared.command.Fault.{Fault}
 use Rattle.replay.specs.declared.command.Fault.the-variants.{Unknown, Unsupported, Words, Number, Rate, Rule, Escape}
 use Rattle.replay.specs.declared.command.Rule as rules
 use Rattle.replay.specs.declared.words.Verb.the-variants.{Later, Unknown as NoVerb}
-use Rattle.replay.specs.Cuts.{before, behind}
-use Rattle.replay.specs.Escapes.{WellFormed}
+use Rattle.script.specs.Cuts.{before, behind}
+use Rattle.script.specs.Escapes.{WellFormed}
 use Rattle.replay.specs.Forms.{Kind, a-number, a-rate, a-rule, a-text, kind, Form, arguments, due}
 use Rattle.replay.specs.Grammar.{Spelled, raw}
-use Rattle.replay.specs.Numbers.{NoNumber, Number as IsNumber}
+use Rattle.script.specs.Numbers.{NoNumber, Number as IsNumber}
 use Rattle.replay.specs.Orders.{Part, named}
 use Rattle.replay.specs.Words.{verb}
 

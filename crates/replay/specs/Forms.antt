@@ -8,7 +8,7 @@ use Rattle.replay.specs.declared.words.Verb.{Verb}
 use Rattle.replay.specs.declared.words.Verb.the-variants.{Measure, Admit, Limiter, Position, Later, Unknown}
 use Rattle.replay.specs.declared.words.Choice.{Choice}
 use Rattle.replay.specs.declared.words.Choice.the-variants.{Allow, Reset, Set, Get, Other}
-use Rattle.replay.specs.Cuts.{before, behind}
+use Rattle.script.specs.Cuts.{before, behind}
 use Rattle.replay.specs.Orders.{Order, measure, admit, limiter, limiter-allow, position, position-allow, position-reset, position-set, position-get, Part, word, number, rate, rule, text}
 use Rattle.replay.specs.Words.{verb, choice}
 

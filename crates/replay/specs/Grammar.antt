@@ -5,9 +5,9 @@ use Prim.Native.Nat.{ℕ, _≤_}
 use Rattle.std.specs.declared.option.Option.{Option}
 use Rattle.std.specs.declared.option.Option.the-variants.{Some, None}
 use Rattle.replay.specs.declared.command.Rule.{Rule}
-use Rattle.replay.specs.Cuts.{before, behind}
-use Rattle.replay.specs.Escapes.{Meant}
-use Rattle.replay.specs.Numbers.{Number}
+use Rattle.script.specs.Cuts.{before, behind}
+use Rattle.script.specs.Escapes.{Meant}
+use Rattle.script.specs.Numbers.{Number}
 use Rattle.replay.specs.Orders.{Order, Part, word, number, rate, rule, text, parts, named}
 
 -- one word spells one part

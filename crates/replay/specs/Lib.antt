@@ -1,15 +1,9 @@
-pub mod Appends
 pub mod Arguments
 pub mod Commands
-pub mod Cuts
-pub mod Escapes
 pub mod Faults
 pub mod Forms
 pub mod Grammar
 pub mod Messages
-pub mod Numbers
 pub mod Orders
 pub mod Rendering
-pub mod Scripts
-pub mod Traces
 pub mod Words

@@ -11,7 +11,7 @@ use Rattle.std.specs.Written.{decimal}
 use Rattle.std.specs.shelf.Lists.{All, joined}
 use Rattle.replay.specs.declared.command.Command.{Command}
 use Rattle.replay.specs.Commands.{Says}
-use Rattle.replay.specs.Escapes.{Means}
+use Rattle.script.specs.Escapes.{Means}
 use Rattle.replay.specs.Orders.{Order, measure, admit, limiter, limiter-allow, position, position-allow, position-reset, position-set, position-get, Part, word, number, rate, rule, text, parts, named}
 
 -- a backslash is doubled, a line end is `\n`, what is not printable ASCII is `\x` with two lower-case digits, all else stands as it is

@@ -5,17 +5,17 @@ ghost use denote.Ref.{now as value};
 ghost use Rattle.std.specs.Options.{mapped};
 ghost use Rattle.std.specs.Results.{Cases};
 ghost use Rattle.replay.specs.Arguments.{Took, Halts};
-ghost use Rattle.replay.specs.Escapes.{WellFormed};
+ghost use Rattle.script.specs.Escapes.{WellFormed};
 ghost use Rattle.replay.specs.Faults.{Stops};
 ghost use Rattle.replay.specs.Forms.{a-number, a-rate, a-rule, a-text, head, after};
 ghost use Rattle.replay.specs.Grammar.{Phrase, raw};
 ghost use Rattle.replay.specs.Orders.{number, rate, rule};
 use crate::command::Fault;
 use crate::command::Rule;
-use crate::escape::is_well_formed;
-use crate::number::read_number;
-use crate::script::cut;
 use crate::words::read_rule;
+use script::escape::is_well_formed;
+use script::lines::cut;
+use script::number::read_number;
 
 // The next word, empty where none is left, and what follows it.
 pub(crate) fn peek(rest: Option<&[u8]>) -> (&[u8], Option<&[u8]>)

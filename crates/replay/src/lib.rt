@@ -1,11 +1,6 @@
-// The language of replay scripts: reading commands, writing answers.
-pub mod answer;
+// The commands of replay scripts: a line as a command, and a command as its canonical line.
 mod arguments;
 pub mod command;
-pub mod escape;
-mod number;
 pub mod parse;
-mod put;
 pub mod render;
-pub mod script;
 mod words;

@@ -17,11 +17,11 @@ use crate::arguments::take_rule;
 use crate::arguments::take_text;
 use crate::command::Command;
 use crate::command::Fault;
-use crate::script::cut;
 use crate::words::Choice;
 use crate::words::Verb;
 use crate::words::read_choice;
 use crate::words::read_verb;
+use script::lines::cut;
 
 // The command that a line spells, or why it spells none.
 pub fn parse(line: &[u8]) -> Result<Command<'_>, Fault>

@@ -7,17 +7,17 @@ ghost use Rattle.std.specs.Of.Vec.{vec-items};
 ghost use Rattle.std.specs.Text.{digitChar};
 ghost use Rattle.std.specs.Vec.{made};
 ghost use Rattle.std.specs.Written.{decimal};
-ghost use Rattle.replay.specs.Appends.{Appends};
+ghost use Rattle.trace.specs.Appends.{Appends};
 ghost use Rattle.replay.specs.Orders.{named};
 ghost use Rattle.replay.specs.Rendering.{escapedByte, Rendered, Renders, RendersText};
 use crate::command::Command;
 use crate::command::Rule;
-use crate::escape::next_byte;
-use crate::put::put;
-use crate::put::put_numbered;
-use crate::put::put_two;
+use script::escape::next_byte;
 use std::alloc::AllocError;
 use std::alloc::Global;
+use trace::put::put;
+use trace::put::put_numbered;
+use trace::put::put_two;
 
 // The line that spells what the command says: numbers without leading zeros, text with the escapes that it needs.
 pub fn render(heap: Global, command: &Command<'_>) -> Result<Vec<u8>, AllocError>

@@ -6,12 +6,12 @@ use native.Mathlib.Omega.{arith}
 use Rattle.std.specs.Options.{mapped}
 use Rattle.std.specs.declared.option.Option.{Option}
 use Rattle.std.specs.declared.option.Option.the-variants.{Some, None}
-use Rattle.replay.specs.declared.answer.Answer.{Answer}
+use Rattle.trace.specs.declared.answer.Answer.{Answer}
 use Rattle.replay.specs.declared.command.Command.{Command}
 use Rattle.replay.specs.Commands.{Says, a-measure, an-admit, a-limiter, a-limiter-allow, a-position, a-position-allow, a-position-reset, a-position-set, a-position-get, Understood}
-use Rattle.replay.specs.Escapes.{Means}
+use Rattle.script.specs.Escapes.{Means}
 use Rattle.replay.specs.Orders.{Order, measure, admit, limiter, limiter-allow, position, position-allow, position-reset, position-set, position-get}
-use Rattle.replay.proofs.Bytes.{means-one}
+use Rattle.script.proofs.Bytes.{means-one}
 use Rattle.runner.specs.Answers.{State, answer, after, with-limiter, with-position}
 use Rattle.runner.specs.Runs.{written, said, Played, Missing}
 

@@ -7,12 +7,12 @@ use Prim.Native.Nat.{ℕ, suc, _+_, _≤_, _<_}
 use native.Mathlib.Nat.{add-assoc}
 use native.Mathlib.Omega.{arith}
 use lib.ListN.{length, length-append}
-use Rattle.replay.specs.declared.answer.Answer.{Answer}
-use Rattle.replay.specs.declared.answer.Answer.the-variants as answers
+use Rattle.trace.specs.declared.answer.Answer.{Answer}
+use Rattle.trace.specs.declared.answer.Answer.the-variants as answers
 use Rattle.replay.specs.declared.command.Fault.{Fault}
 use Rattle.replay.specs.Commands.{Refused}
-use Rattle.replay.specs.Scripts.{Line, Skipped}
-use Rattle.replay.specs.Traces.{traced}
+use Rattle.script.specs.Scripts.{Line, Skipped}
+use Rattle.trace.specs.Traces.{traced}
 use Rattle.runner.specs.declared.stop.Halt.{Halt}
 use Rattle.runner.specs.declared.stop.Halt.the-variants as halts
 use Rattle.runner.specs.Answers.{State, nothing}

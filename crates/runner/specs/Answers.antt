@@ -12,8 +12,8 @@ use Rattle.text.specs.Width.{plain, house}
 use Rattle.text.specs.Outcomes.{admission-number, measure-number, measured}
 use Rattle.limiter.specs.Ration as rations
 use Rattle.limiter.specs.Standing as standings
-use Rattle.replay.specs.declared.answer.Answer.{Answer}
-use Rattle.replay.specs.declared.answer.Answer.the-variants as answers
+use Rattle.trace.specs.declared.answer.Answer.{Answer}
+use Rattle.trace.specs.declared.answer.Answer.the-variants as answers
 use Rattle.replay.specs.declared.command.Rule.{Rule}
 use Rattle.replay.specs.declared.command.Rule.the-variants as rules
 use Rattle.replay.specs.Orders.{Order, measure, admit, limiter, limiter-allow, position, position-allow, position-reset, position-set, position-get}

@@ -5,16 +5,16 @@ use Prim.Native.Nat.{ℕ, suc, _+_}
 use denote.Ref.{now}
 use Rattle.std.specs.declared.option.Option.{Option}
 use Rattle.std.specs.declared.option.Option.the-variants.{Some, None}
-use Rattle.replay.specs.declared.answer.Answer.{Answer}
-use Rattle.replay.specs.declared.answer.Answer.the-variants as answers
+use Rattle.trace.specs.declared.answer.Answer.{Answer}
+use Rattle.trace.specs.declared.answer.Answer.the-variants as answers
 use Rattle.replay.specs.declared.command.Fault.{Fault}
 use Rattle.replay.specs.declared.command.Command.{Command}
 use Rattle.replay.specs.declared.command.Command.the-variants.{Measure, Admit, Limiter, LimiterAllow, Position, PositionAllow, PositionReset, PositionSet, PositionGet}
 use Rattle.replay.specs.Commands.{Refused}
 use Rattle.replay.specs.Grammar.{Spells}
 use Rattle.replay.specs.Orders.{Order, measure, admit, limiter, limiter-allow, position, position-allow, position-reset, position-set, position-get}
-use Rattle.replay.specs.Scripts.{Line, Skipped}
-use Rattle.replay.specs.Traces.{traced}
+use Rattle.script.specs.Scripts.{Line, Skipped}
+use Rattle.trace.specs.Traces.{traced}
 use Rattle.runner.specs.Answers.{State, answer, after}
 
 -- the text of a command, as it stands in the line

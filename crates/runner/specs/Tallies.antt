@@ -1,6 +1,6 @@
 -- The tally of a run, as a summary holds it.
 use Prim.Native.Nat.{_+_}
-use Rattle.replay.specs.declared.answer.Answer.{Answer}
+use Rattle.trace.specs.declared.answer.Answer.{Answer}
 use Rattle.runner.specs.declared.summary.Summary.{Summary}
 use Rattle.runner.specs.Runs.{Tally, refusals}
 

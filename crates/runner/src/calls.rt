@@ -6,7 +6,7 @@ ghost use lib.Dec.{eqb};
 ghost use Rattle.std.specs.Options.{Cases, mapped};
 ghost use Rattle.std.specs.declared.option.Option.the-variants.{Some, None};
 ghost use Rattle.refusal.specs.Numbers.{number as numbered};
-ghost use Rattle.replay.specs.declared.answer.Answer.the-variants as answers;
+ghost use Rattle.trace.specs.declared.answer.Answer.the-variants as answers;
 ghost use Rattle.text.specs.Outcomes.{admission-number, measure-number, measured, Measured};
 ghost use Rattle.limiter.specs.Ration as rations;
 ghost use Rattle.limiter.specs.Standing as standings;
@@ -14,7 +14,7 @@ ghost use Rattle.runner.specs.Answers.{cells, measure-answer, plain-answer, sa
 use limiter::AtomicPosition;
 use limiter::RateLimiter;
 use refusal::Refusal;
-use replay::answer::Answer;
+use trace::answer::Answer;
 use replay::command::Rule;
 use text::admission::admit;
 use text::measure::measure;

@@ -5,7 +5,7 @@ ghost use Rattle.runner.specs.Runs.{written, said};
 use crate::calls;
 use limiter::AtomicPosition;
 use limiter::RateLimiter;
-use replay::answer::Answer;
+use trace::answer::Answer;
 use replay::command::Command;
 
 #[derive(Drop)]

@@ -3,7 +3,7 @@ ghost use mathlib.Core.Path.{_≡_};
 ghost use mathlib.Core.List.{_++_};
 ghost use Rattle.std.specs.Of.Vec.{vec-items};
 ghost use Rattle.std.specs.Results.{Cases};
-ghost use Rattle.replay.specs.Traces.{traced};
+ghost use Rattle.trace.specs.Traces.{traced};
 ghost use Rattle.runner.specs.Answers.{state};
 ghost use Rattle.runner.specs.Runs.{Played, Ran, complete};
 ghost use Rattle.runner.specs.Stops.{Halted, Stopped};
@@ -13,12 +13,12 @@ use crate::rack::written;
 use crate::stop::Halt;
 use crate::stop::Stop;
 use crate::summary::Summary;
-use replay::answer::Answer;
-use replay::answer::trace;
-use replay::escape::unescape;
+use trace::answer::Answer;
+use trace::answer::trace;
+use script::escape::unescape;
 use replay::parse::parse;
-use replay::script::is_skipped;
-use replay::script::next_line;
+use script::lines::is_skipped;
+use script::lines::next_line;
 use std::alloc::Global;
 
 // Answers one line, and appends its trace.

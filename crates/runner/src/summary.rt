@@ -3,7 +3,7 @@ ghost use mathlib.Core.Path.{_≡_};
 ghost use Prim.Native.Nat.{_+_, _^_, _-_, _<_};
 ghost use Rattle.runner.specs.Runs.{none};
 ghost use Rattle.runner.specs.Tallies.{tally, counted-in};
-use replay::answer::Answer;
+use trace::answer::Answer;
 
 #[derive(Clone, Copy)]
 pub struct Summary {

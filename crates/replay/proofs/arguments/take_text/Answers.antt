@@ -3,7 +3,7 @@ use borrow.Author.Needs.{needs}
 use denote.Ref.{now}
 use Rattle.std.specs.Options.{mapped}
 use Rattle.std.proofs.shelf.Ways.{not-from-decides}
-use Rattle.replay.specs.Escapes.{WellFormed}
+use Rattle.script.specs.Escapes.{WellFormed}
 use Rattle.replay.specs.Faults.{escape}
 use Rattle.replay.specs.Grammar.{raw}
 use Rattle.replay.proofs.arguments.take_text.Needs as need

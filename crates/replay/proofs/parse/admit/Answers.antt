@@ -2,7 +2,7 @@ use mathlib.Core.Path.{refl, sym, subst}
 use mathlib.Core.List.{List}
 use Prim.Native.Nat.{ℕ}
 use Rattle.replay.specs.Commands.{an-admit}
-use Rattle.replay.specs.Escapes.{Means}
+use Rattle.script.specs.Escapes.{Means}
 use Rattle.replay.specs.Grammar.{tail}
 use Rattle.replay.specs.Orders.{admit}
 use Rattle.replay.proofs.Reading.{means-all, read-as}

@@ -2,7 +2,7 @@ use mathlib.Core.Path.{sym, subst}
 use Prim.Native.Nat.{ℕ}
 use Rattle.std.specs.Of.Vec.{vec-items}
 use Rattle.replay.specs.declared.command.Command.{Command}
-use Rattle.replay.specs.Appends.{Appends}
+use Rattle.trace.specs.Appends.{Appends}
 use Rattle.replay.specs.Commands.{a-limiter, a-limiter-allow, a-position, a-position-allow, a-position-reset, a-position-set, a-position-get}
 use Rattle.replay.specs.Orders.{limiter, limiter-allow, position, position-allow, position-reset, position-set, position-get}
 use Rattle.replay.specs.Rendering.{Renders, rendering}

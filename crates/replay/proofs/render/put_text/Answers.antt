@@ -3,9 +3,9 @@ use mathlib.Core.List.{List, [], _∷_, _++_, append-nil, append-assoc}
 use Prim.Native.Nat.{ℕ}
 use Rattle.std.specs.Of.Vec.{vec-items}
 use Rattle.std.proofs.shelf.Lists.{joined-more}
-use Rattle.replay.specs.Escapes.{none}
+use Rattle.script.specs.Escapes.{none}
 use Rattle.replay.specs.Rendering.{escapedByte, escaped}
-use Rattle.replay.proofs.Bytes.{byte-less, spelt-push}
+use Rattle.script.proofs.Bytes.{byte-less, spelt-push}
 use Rattle.replay.proofs.render.put_text.Needs as need
 
 pub loop-b-holds : need.loop-b-holds

@@ -3,7 +3,7 @@ use mathlib.Core.List.{List, _++_}
 use Prim.Native.Nat.{ℕ}
 use lib.ListN.{length}
 use Rattle.std.specs.Of.Vec.{vec-items}
-use Rattle.replay.specs.Escapes.{Spelt}
+use Rattle.script.specs.Escapes.{Spelt}
 use Rattle.replay.specs.Rendering.{escaped}
 use Rattle.replay.proofs.render.put_text.Given as given
 

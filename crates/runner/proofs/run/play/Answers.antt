@@ -1,6 +1,6 @@
 use mathlib.Core.Path.{refl, ap, subst, _∙_}
 use mathlib.Core.List.{_++_}
-use Rattle.replay.specs.Escapes.{Means}
+use Rattle.script.specs.Escapes.{Means}
 use Rattle.runner.proofs.Playing.{played, lacking}
 use Rattle.runner.proofs.run.play.Needs as need
 

@@ -1,0 +1,13 @@
+use mathlib.Core.Path.{_≡_}
+use mathlib.Core.List.{List, _++_}
+use Prim.Native.Nat.{ℕ}
+use lib.ListN.{length}
+use Rattle.std.specs.Of.Vec.{vec-items}
+use Rattle.script.specs.Escapes.{Spelt}
+use Rattle.script.proofs.escape.unescape.Given as given
+
+abbrev pub Inv-loop-b : given.InvT-loop-b
+Inv-loop-b l = (bs : List ℕ) × (vec-items (l .out) ≡ vec-items (l .entry .out) ++ bs) × Spelt (l .text) bs (l .rest)
+
+abbrev pub μ-loop-b : given.MeasureT-loop-b
+μ-loop-b l = length (l .rest)
