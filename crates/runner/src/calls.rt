@@ -14,7 +14,6 @@ ghost use Rattle.runner.specs.Answers.{cells, measure-answer, plain-answer, sa
 use limiter::AtomicPosition;
 use limiter::RateLimiter;
 use refusal::Refusal;
-use trace::answer::Answer;
 use replay::command::Rule;
 use text::admission::admit;
 use text::measure::measure;
@@ -23,6 +22,7 @@ use text::width::House;
 use text::width::HouseWidth;
 use text::width::Plain;
 use text::width::PlainWidth;
+use trace::answer::Answer;
 
 // How these calls tell of a refusal: with one line at most, its index is left out.
 fn refused(refusal: Refusal) -> Answer

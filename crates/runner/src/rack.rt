@@ -5,8 +5,8 @@ ghost use Rattle.runner.specs.Runs.{written, said};
 use crate::calls;
 use limiter::AtomicPosition;
 use limiter::RateLimiter;
-use trace::answer::Answer;
 use replay::command::Command;
+use trace::answer::Answer;
 
 #[derive(Drop)]
 pub struct Rack {

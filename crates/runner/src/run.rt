@@ -13,13 +13,13 @@ use crate::rack::written;
 use crate::stop::Halt;
 use crate::stop::Stop;
 use crate::summary::Summary;
-use trace::answer::Answer;
-use trace::answer::trace;
-use script::escape::unescape;
 use replay::parse::parse;
+use script::escape::unescape;
 use script::lines::is_skipped;
 use script::lines::next_line;
 use std::alloc::Global;
+use trace::answer::Answer;
+use trace::answer::trace;
 
 // Answers one line, and appends its trace.
 pub fn play(rack: &mut Rack, heap: Global, line: &[u8], out: &mut Vec<u8>) -> Result<Answer, Halt>
