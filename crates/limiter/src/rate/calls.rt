@@ -16,7 +16,7 @@ use refusal::Refusal;
 const MAX_BURST: u8 = 20;
 
 impl RateLimiter {
-    // A limiter of `rate` yes answers a second.
+    // A limiter of at least `rate` yes answers a second.
     pub fn new(rate: u8, now: u64) -> Result<RateLimiter, Refusal>
         ensures made { λ r. ⌜ Cases r (λ l. (0 < rate) × (ration l ≡ fresh rate now)) (λ e. (rate ≡ 0) × (e ≡ Rate)) ⌝ }
         ensures begun { λ r. ⌜ made r (λ l. Run (fresh rate now) [] 0 (ration l)) ⌝ }
