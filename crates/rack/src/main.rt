@@ -13,8 +13,8 @@ use std::io::Write;
 
 const USAGE: &str = "usage: rack, rack [--summary] FILE, rack [--summary] -";
 
-// Prints the trace as far as it goes, then the summary, or why the script stopped.
-fn run(rt: &LibcRuntime, script: &[u8], with_summary: bool) -> Result<(), AnyError> {
+// Prints the trace as far as it goes, and says whether the script came to its end.
+fn run(rt: &LibcRuntime, script: &[u8], with_summary: bool) -> Result<bool, AnyError> {
     let mut trace = Vec::new(rt.alloc());
     let result = replay(rt.alloc(), script, &mut trace);
     rt.stdout().write_all(&trace)?;
@@ -23,9 +23,12 @@ fn run(rt: &LibcRuntime, script: &[u8], with_summary: bool) -> Result<(), AnyErr
             if with_summary {
                 print_summary(rt, summary)?;
             }
-            Ok(())
+            Ok(true)
         }
-        Err(stop) => stopped(rt, stop),
+        Err(stop) => {
+            print_stop(rt, stop)?;
+            Ok(false)
+        }
     }
 }
 
@@ -38,14 +41,14 @@ fn print_summary(rt: &LibcRuntime, summary: Summary) -> Result<(), AnyError> {
     Ok(())
 }
 
-fn stopped(rt: &LibcRuntime, stop: Stop) -> Result<(), AnyError> {
+fn print_stop(rt: &LibcRuntime, stop: Stop) -> Result<(), AnyError> {
     let line = stop.line;
     let reason = stop.halt.message();
     eprintln!(rt, "line {line}: {reason}")?;
-    Err("the script was not replayed to its end".into())
+    Ok(())
 }
 
-fn run_source(rt: &LibcRuntime, source: &str, with_summary: bool) -> Result<(), AnyError> {
+fn run_source(rt: &LibcRuntime, source: &str, with_summary: bool) -> Result<bool, AnyError> {
     if source == "-" {
         let mut script = Vec::new(rt.alloc());
         let _ = rt.stdin().read_to_end(&mut script)?;
@@ -56,19 +59,29 @@ fn run_source(rt: &LibcRuntime, source: &str, with_summary: bool) -> Result<(), 
     }
 }
 
-fn main(rt: LibcRuntime) -> Result<(), AnyError> {
-    let mut words = env::args(&rt)?;
+// By the words behind the program's name.
+fn run_words(rt: &LibcRuntime) -> Result<bool, AnyError> {
+    let mut words = env::args(rt)?;
     let _program = words.next();
     match (words.next(), words.next(), words.next()) {
-        (None, _, _) => run(&rt, DEMONSTRATION.as_bytes(), true),
-        (Some(source), None, _) => run_source(&rt, source.as_str(), false),
+        (None, _, _) => run(rt, DEMONSTRATION.as_bytes(), true),
+        (Some(source), None, _) => run_source(rt, source.as_str(), false),
         (Some(option), Some(source), None) => {
             if option.as_str() == "--summary" {
-                run_source(&rt, source.as_str(), true)
+                run_source(rt, source.as_str(), true)
             } else {
-                rt.report(Err(USAGE.into()))
+                Err(USAGE.into())
             }
         }
-        _ => rt.report(Err(USAGE.into())),
+        _ => Err(USAGE.into()),
+    }
+}
+
+fn main(rt: LibcRuntime) -> Result<(), AnyError> {
+    match run_words(&rt) {
+        Ok(true) => Ok(()),
+        // its reason is printed already
+        Ok(false) => Err("the script stopped".into()),
+        Err(error) => rt.report(Err(error)),
     }
 }
