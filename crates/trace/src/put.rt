@@ -28,7 +28,7 @@ pub fn put_numbered(out: &mut Vec<u8>, name: &[u8], n: u64) -> Result<(), AllocE
     put_decimal(out, n)
 }
 
-pub(crate) fn put_two(
+pub fn put_two(
     out: &mut Vec<u8>,
     first: &[u8],
     m: u64,
