@@ -8,10 +8,10 @@ use native.Mathlib.Omega.{arith}
 use mathlib.Core.Bool.{true}
 use lib.Dec.{eqb}
 use borrow.Author.Tests.{true-eqb}
-use lib.ListN.{length, take, drop, length-take, length-drop, length-append, take-append-drop}
+use lib.ListN.{length, take, drop, length-take, length-drop}
 use lib.Seq.{drop-drop, take-add, take-all}
 use Rattle.escape.specs.Grammar.{Sequence, Heads}
-use Rattle.escape.specs.Pieces.{Part, plain, colour, bytes, Opens, Kind, Cut, Given, start, next, joined, Follows, Sound, All-sound, Apart, Divided}
+use Rattle.escape.specs.Pieces.{Part, plain, colour, bytes, Opens, Cut, Given, start, next, joined, Follows, Sound, All-sound, Apart, Divided}
 
 -- ---- one cut
 pub ended : (line : List ℕ) (i : ℕ) → i ≤ length line → true ≡ eqb (length (take (length line - i) (drop i line))) 0 → i ≡ length line

@@ -1,9 +1,9 @@
 -- The loop that looks for the end of a sequence. Assumes nothing.
-use mathlib.Core.Path.{_≡_, refl, sym, ap, subst, _∙_}
+use mathlib.Core.Path.{_≡_, refl, sym, ap, _∙_}
 use mathlib.Core.Bool.{true, false}
-use mathlib.Core.List.{List, [], _∷_}
+use mathlib.Core.List.{List, _∷_}
 use mathlib.Core.Logic.{_⊎_, inl, inr}
-use Prim.Native.Nat.{ℕ, suc, _+_, _≤_, _<_}
+use Prim.Native.Nat.{ℕ, suc, _+_, _<_}
 use native.Mathlib.Numerals.{add-one}
 use native.Mathlib.Omega.{arith}
 use lib.ListN.{length, getD, drop}
@@ -18,7 +18,7 @@ use Rattle.escape.specs.declared.reader.Verdict.the-variants.{Plain, Colour, R
 use Rattle.escape.specs.Reader.{verdict, after, ended}
 use Rattle.escape.specs.Grammar.{Heads}
 use Rattle.escape.specs.Reading.{one-more, closes, closing}
-use Rattle.escape.proofs.Walk.{heads, closes-head}
+use Rattle.escape.proofs.Walk.{closes-on, heads, closes-head}
 
 abbrev pub plus : ℕ → Option ℕ → Option ℕ
 plus i None = None
@@ -28,16 +28,9 @@ plus i (Some n) = Some (i + n)
 abbrev pub Sofar : List ℕ → ℕ → State → Type 0
 Sofar s i st = plus i (closing st (drop i s)) ≡ closing Ground s
 
-plus-none : (r : Option ℕ) → plus 0 r ≡ r
-plus-none None = refl
-plus-none (Some n) = ap Some (let e : 0 + n ≡ n = omega arith in e)
-
 plus-more : (i : ℕ) (r : Option ℕ) → plus i (one-more r) ≡ plus (i + 1) r
 plus-more i None = refl
 plus-more i (Some n) = ap Some (let e : i + suc n ≡ i + 1 + n = omega arith in e)
-
-pub first : (s : List ℕ) → Sofar s 0 Ground
-first s = plus-none (closing Ground s)
 
 -- one step of the reader, at the place i
 stepped : (s : List ℕ) (i : ℕ) (st st′ : State) (v : Verdict) → i < length s → Sofar s i st → v ≡ verdict st (getD s i 0) → st′ ≡ after st (getD s i 0)
@@ -45,12 +38,6 @@ stepped : (s : List ℕ) (i : ℕ) (st st′ : State) (v : Verdict) → i < leng
 stepped s i st st′ v h inv p q =
     let e : drop i s ≡ getD s i 0 ∷ drop (i + 1) s = rw (add-one) (drop-cons s i 0 h) in
     (λ k. plus i (closes (p k) (q k) (closing (q k) (drop (i + 1) s)))) ∙ ap (λ l. plus i (closing st l)) (sym e) ∙ inv
-
-open-state : (st : State) (r : Option ℕ) → ended st ≡ false → closes Colour st r ≡ one-more r
-open-state Ground r e = absurd (let z : _≡_ {A = ℕ} 0 1 = cc in omega arith)
-open-state Escaped r e = refl
-open-state Parameters r e = refl
-open-state Intermediates r e = refl
 
 closed-state : (st : State) (r : Option ℕ) → ended st ≡ true → closes Colour st r ≡ Some 1
 closed-state Ground r e = refl
@@ -60,7 +47,7 @@ closed-state Intermediates r e = absurd (let z : _≡_ {A = ℕ} 0 1 = cc in ome
 
 module _ (s : List ℕ) (i : ℕ) (st st′ : State) (h : i < length s) (inv : Sofar s i st) (q : st′ ≡ after st (getD s i 0)) where
   pub more : Colour ≡ verdict st (getD s i 0) → false ≡ ended st′ → Sofar s (i + 1) st′
-  more p e = sym (plus-more i _) ∙ ap (plus i) (sym (open-state st′ _ (sym e))) ∙ stepped s i st st′ Colour h inv p q
+  more p e = sym (plus-more i _) ∙ ap (plus i) (sym (closes-on st′ _ (sym e))) ∙ stepped s i st st′ Colour h inv p q
 
   pub found : Colour ≡ verdict st (getD s i 0) → true ≡ ended st′ → closing Ground s ≡ Some (i + 1)
   found p e = sym (stepped s i st st′ Colour h inv p q) ∙ ap (plus i) (closed-state st′ _ (sym e))

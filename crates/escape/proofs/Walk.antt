@@ -1,6 +1,6 @@
 -- The reader takes exactly the sequences of the grammar, and exactly its text. Assumes nothing.
 use mathlib.Core.Path.{_≡_, refl, sym, ap, subst, _∙_}
-use mathlib.Core.Bool.{Bool, true, false, cond}
+use mathlib.Core.Bool.{true, false}
 use mathlib.Core.List.{List, [], _∷_, _++_}
 use Prim.Native.Nat.{ℕ, suc, _≤_}
 use native.Mathlib.Omega.{arith}
@@ -12,7 +12,7 @@ use Rattle.escape.specs.declared.reader.State.{State}
 use Rattle.escape.specs.declared.reader.State.the-variants.{Ground, Escaped, Parameters, Intermediates}
 use Rattle.escape.specs.declared.reader.Verdict.{Verdict}
 use Rattle.escape.specs.declared.reader.Verdict.the-variants.{Plain, Colour, Refused}
-use Rattle.escape.specs.Reader.{shown, parameter, intermediate, final, verdict, after, ended}
+use Rattle.escape.specs.Reader.{shown, parameter, intermediate, verdict, after, ended}
 use Rattle.escape.specs.Grammar.{Each, Sequence, Clean, none, char, colour, Heads}
 use Rattle.escape.specs.Reading.{goes, accepts, kept, letters, one-more, closes, closing}
 
@@ -150,7 +150,7 @@ walk : (q : List ℕ) → Sequence q → Walk Ground q
 walk q h = subst (Walk Ground) (sym (h .whole)) (step Ground 27 _ refl refl (step Escaped 91 _ refl refl (walk-params (h .params) (h .inters) (h .params-are) (h .inters-are))))
 
 -- ---- what a walk makes of the functions
-closes-on : (st : State) (r : Option ℕ) → ended st ≡ false → closes Colour st r ≡ one-more r
+pub closes-on : (st : State) (r : Option ℕ) → ended st ≡ false → closes Colour st r ≡ one-more r
 closes-on Ground r e = clash e
 closes-on Escaped r e = refl
 closes-on Parameters r e = refl

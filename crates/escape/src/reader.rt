@@ -1,7 +1,5 @@
 // The escape reader: by its state and the next byte it moves between a text and its colour sequences.
 ghost use mathlib.Core.Path.{_≡_};
-ghost use mathlib.Core.Bool.{_&&_};
-ghost use lib.Dec.{T};
 ghost use Rattle.escape.specs.Reader.{after, verdict, ended};
 ghost use Rattle.escape.specs.declared.reader.State.the-variants.{Ground};
 

@@ -16,7 +16,7 @@ use Rattle.trace.specs.Traces.{traced}
 use Rattle.runner.specs.declared.stop.Halt.{Halt}
 use Rattle.runner.specs.declared.stop.Halt.the-variants as halts
 use Rattle.runner.specs.Answers.{State, nothing}
-use Rattle.runner.specs.Runs.{Played, Missing, Tally, none, refusals, counted, Ending, complete, faulty, missing, below, Replayed, ended, skip, play, refuse, lack, Ran, Grown}
+use Rattle.runner.specs.Runs.{Played, Missing, Tally, none, refusals, counted, Ending, complete, faulty, missing, below, Replayed, ended, skip, play, refuse, lack, Ran}
 use Rattle.runner.specs.Stops.{Halted, stopped}
 use Rattle.runner.specs.Tallies.{counted-in}
 

@@ -1,9 +1,8 @@
 // One call for each command.
 ghost use mathlib.Core.Path.{_≡_};
 ghost use mathlib.Core.Bool.{cond};
-ghost use Prim.Native.Nat.{ℕ};
 ghost use lib.Dec.{eqb};
-ghost use Rattle.std.specs.Options.{Cases, mapped};
+ghost use Rattle.std.specs.Options.{mapped};
 ghost use Rattle.std.specs.declared.option.Option.the-variants.{Some, None};
 ghost use Rattle.refusal.specs.Numbers.{number as numbered};
 ghost use Rattle.trace.specs.declared.answer.Answer.the-variants as answers;

@@ -7,7 +7,7 @@ ghost use Rattle.trace.specs.Traces.{traced};
 ghost use Rattle.runner.specs.Answers.{state};
 ghost use Rattle.runner.specs.Runs.{Played, Ran, complete};
 ghost use Rattle.runner.specs.Stops.{Halted, Stopped};
-ghost use Rattle.runner.specs.Tallies.{tally, counted-in};
+ghost use Rattle.runner.specs.Tallies.{tally};
 use crate::rack::Rack;
 use crate::rack::written;
 use crate::stop::Halt;

@@ -4,12 +4,10 @@ use mathlib.Core.Bool.{Bool, true, false, cond}
 use mathlib.Core.List.{List, [], _∷_, _++_, append-nil, append-assoc}
 use Prim.Native.Nat.{ℕ, suc, _+_, _≤_, _<_, max}
 use native.Mathlib.Omega.{arith}
-use lib.Dec.{ltb}
 use lib.ListN.{length}
 use borrow.Author.Tests.{ltb-true, ltb-false}
 use Rattle.std.proofs.shelf.Ways.{tells}
 use Rattle.text.specs.declared.metrics.Metrics.{Metrics}
-use Rattle.text.specs.Width.{Rule}
 use Rattle.text.specs.Rows.{span, Rows, last, wrap, join, final, Division, Measures, wraps, start, placed, metrics}
 
 span-append : (u : ℕ → ℕ) (xs ys : List ℕ) → span u (xs ++ ys) ≡ span u xs + span u ys

@@ -1,11 +1,10 @@
 -- What the public calls promise of a measure. Assumes nothing.
-use mathlib.Core.Path.{_≡_, refl, sym, ap, subst, _∙_}
-use mathlib.Core.Bool.{Bool, true, false, cond}
+use mathlib.Core.Path.{_≡_, refl, sym, ap, subst}
+use mathlib.Core.Bool.{true}
 use mathlib.Core.List.{List, [], _∷_}
-use Prim.Native.Nat.{ℕ, suc, _≤_, max}
+use Prim.Native.Nat.{ℕ, suc, _≤_}
 use native.Mathlib.Omega.{arith}
 use lib.ListN.{length}
-use lib.Utf8.{encodes}
 use Rattle.std.specs.shelf.Text.{decodes}
 use Rattle.std.proofs.shelf.Text.{length-le-encodes}
 use Rattle.std.proofs.str.Laws.{both}
@@ -18,7 +17,6 @@ use Rattle.escape.specs.declared.reader.Verdict.the-variants.{Plain, Colour, Re
 use Rattle.text.specs.declared.metrics.Metrics.{Metrics}
 use Rattle.text.specs.Width.{Rule}
 use Rattle.text.specs.Texts.{utf8, admissible, characters}
-use Rattle.text.specs.Rows.{metrics, start, Measures}
 use Rattle.text.specs.Outcomes.{measured, Line}
 use Rattle.text.proofs.Deciding.{decided, codes-of}
 use Rattle.text.proofs.Dividing.{measures, column-fits, rows-within}

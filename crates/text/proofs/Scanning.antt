@@ -5,7 +5,6 @@ use mathlib.Core.List.{List, [], _∷_, _++_}
 use Prim.Native.Nat.{ℕ, _+_, _≤_, _<_}
 use native.Mathlib.Omega.{arith}
 use lib.ListN.{length, length-append}
-use lib.Dec.{ltb}
 use lib.Utf8.{scalar, scalars, encode, encodes}
 use borrow.Author.Tests.{ltb-false}
 use Rattle.std.specs.shelf.Text.{decodes}
@@ -16,7 +15,7 @@ use Rattle.utf8.proofs.Standard.{encoded, scalar-is, char}
 use Rattle.escape.specs.Reader.{verdict, after, ended}
 use Rattle.escape.specs.Reading.{goes, accepts, kept, letters}
 use Rattle.escape.specs.declared.reader.State.{State}
-use Rattle.escape.specs.declared.reader.State.the-variants.{Ground, Escaped, Parameters, Intermediates}
+use Rattle.escape.specs.declared.reader.State.the-variants.{Ground}
 use Rattle.escape.specs.declared.reader.Verdict.{Verdict}
 use Rattle.escape.specs.declared.reader.Verdict.the-variants.{Plain, Colour, Refused}
 use Rattle.text.specs.declared.metrics.Metrics.{Metrics}

@@ -1,21 +1,18 @@
 -- From the first octets of a list to the list. Assumes nothing.
 use mathlib.Core.Path.{_≡_, refl, sym, ap, subst, _∙_}
-use mathlib.Core.Bool.{true}
-use mathlib.Core.Logic.{_⊎_, inl, inr, ⊎-elim}
+use mathlib.Core.Logic.{_⊎_, inl, inr}
 use mathlib.Core.List.{List, [], _∷_, _++_, append-nil}
-use Prim.Native.Nat.{ℕ, zero, suc, _+_, _-_, _*_, _/_, _≤_, _<_}
+use Prim.Native.Nat.{ℕ, zero, suc, _+_, _-_, _≤_, _<_}
 use native.Mathlib.Nat.{add-comm}
 use native.Mathlib.Omega.{arith}
-use lib.ListN.{length, getD, take, drop, take-append-drop, length-append}
-use lib.Utf8.{encode, scalar, next, scalar-cases, low-scalar}
-use Rattle.std.specs.Reads as std
+use lib.ListN.{length, getD, take, drop, take-append-drop}
+use lib.Utf8.{encode, scalar-cases, low-scalar}
 use Rattle.std.proofs.shelf.Lists.{take-rest}
-use Rattle.std.proofs.str.Laws.{Shape, of1, of2, of3, of4, shape, not-empty, one, two, three, four}
-use Rattle.std.proofs.str.Digits.{high-scalar}
+use Rattle.std.proofs.str.Laws.{Shape, of1, of2, of3, of4, shape, not-empty, one}
 use Rattle.std.proofs.str.Faults.{Ranged}
 use Rattle.std.proofs.str.Faults as faults
-use Rattle.utf8.specs.Rfc.{Char, NoChar, Tail, octets}
-use Rattle.utf8.proofs.Standard.{char, none, octets-are, encoded, scalar-is}
+use Rattle.utf8.specs.Rfc.{Char, NoChar, octets}
+use Rattle.utf8.proofs.Standard.{char, none, encoded, scalar-is}
 
 -- a list and the same list cut after n octets
 pub widen : (s : List ℕ) (n c : ℕ) → Char (take n s) c [] → Char s c (take (length s - n) (drop n s))

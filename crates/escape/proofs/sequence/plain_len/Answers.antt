@@ -1,5 +1,5 @@
 use native.Mathlib.Omega.{arith}
-use Prim.Native.Nat.{ℕ, _<_}
+use Prim.Native.Nat.{_<_}
 use borrow.Author.Count.{below-more}
 use Rattle.escape.specs.Pieces.{Opens}
 use Rattle.escape.proofs.sequence.plain_len.Needs as need

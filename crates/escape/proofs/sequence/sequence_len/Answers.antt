@@ -1,10 +1,7 @@
-use mathlib.Core.Path.{_∙_, subst}
-use borrow.Author.Needs.{needs}
+use mathlib.Core.Path.{_≡_, subst}
 use native.Mathlib.Omega.{arith}
-use Prim.Native.Nat.{_+_, ℕ}
 use lib.ListN.{length}
-use mathlib.Core.Path.{_≡_}
-use Rattle.escape.proofs.Scan.{Sofar, first, more, found, refused, some, nothing, unclosed}
+use Rattle.escape.proofs.Scan.{Sofar, more, found, refused, some, nothing, unclosed}
 use Rattle.escape.proofs.sequence.sequence_len.Needs as need
 
 pub returns-then-is-ground : need.returns-then-is-ground
