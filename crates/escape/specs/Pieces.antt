@@ -35,12 +35,12 @@ pub record Cut (line : List ℕ) (i j : ℕ) (p : Part) : Type 0 where
 
 -- where a piece lies in memory
 abbrev pub at : Piece → ℕ × ℕ
-at (pieces.Plain run) = run.ptr
-at (pieces.Colour sequence) = sequence.ptr
+at (pieces.Plain run) = run.ref_ptr
+at (pieces.Colour sequence) = sequence.ref_ptr
 
 -- the piece lies in the memory of the line, i bytes on
 abbrev pub LiesAt : Bor (List ℕ) → ℕ → Piece → Type 0
-LiesAt line i p = ((at p).0 ≡ line.ptr.0) × ((at p).1 ≡ line.ptr.1 + i)
+LiesAt line i p = ((at p).0 ≡ line.ref_ptr.0) × ((at p).1 ≡ line.ref_ptr.1 + i)
 
 -- the pieces of the line that stand before the place i, one after the other
 pub data Given (line : List ℕ) : List Part → ℕ → Type 0 where

@@ -1,4 +1,6 @@
 // The worked examples of the documentation, held against the definitions that the contracts cite.
+#![tactic(auto)]
+
 ghost use Rattle.figures.specs.Figures.{Figures};
 
 // All of them together, by computation.

@@ -1,4 +1,6 @@
 // How often a display may be drawn, and how often a bar may report its position.
+#![tactic(auto)]
+
 mod capacity;
 mod figures;
 mod position;

@@ -1,4 +1,6 @@
 // Executed vectors of the limiters.
+#![tactic(auto)]
+
 #[cfg(test)]
 mod draws;
 #[cfg(test)]

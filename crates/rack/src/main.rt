@@ -1,4 +1,6 @@
 // Replays a script of calls and prints what happened.
+#![tactic(auto)]
+
 mod demonstration;
 
 use anyhow::anyhow;

@@ -1,4 +1,6 @@
 // Why a call was declined: one enum for the whole product.
+#![tactic(auto)]
+
 ghost use Rattle.std.specs.Prelude.{◌≡◌};
 ghost use Rattle.refusal.specs.Numbers.{number, place};
 

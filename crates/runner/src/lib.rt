@@ -1,4 +1,6 @@
 // Runs replay scripts over the layers below.
+#![tactic(auto)]
+
 mod calls;
 pub mod rack;
 pub mod run;

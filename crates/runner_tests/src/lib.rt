@@ -1,4 +1,6 @@
 // Scripts that stop: where, why, and the trace that stands.
+#![tactic(auto)]
+
 #[cfg(test)]
 mod tests {
     use runner::run::replay;

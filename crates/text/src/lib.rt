@@ -1,4 +1,6 @@
 // Text and its measure: which text may be written, how wide its characters are, and how many rows a line takes.
+#![tactic(auto)]
+
 pub mod admission;
 pub mod line;
 pub mod measure;

@@ -1,4 +1,6 @@
 // Pieces and lines, executed.
+#![tactic(auto)]
+
 #[cfg(test)]
 mod tests {
     use escape::piece::Piece;

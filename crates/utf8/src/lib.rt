@@ -1,4 +1,6 @@
 // UTF-8 by RFC 3629, one character at a time.
+#![tactic(auto)]
+
 ghost use Rattle.std.specs.Prelude.{◌≡◌, ℕ, ◌+◌, ◌<◌, ◌≤◌, ◌&&◌, ◌||◌, T, List, [], ◌∷◌, length, IfSome, MatchOption, nat_le, nat_lt};
 ghost use Rattle.utf8.specs.Rfc.{Char, NoChar, Tail, AsStd, octets};
 
@@ -6,7 +8,7 @@ ghost use Rattle.utf8.specs.Rfc.{Char, NoChar, Tail, AsStd, octets};
 pub fn decode(s: &[u8]) -> Option<(u32, &[u8])>
     ensures read { MatchOption result (NoChar s.now) (λ p. Char s.now p.0 p.1.now) }
     ensures all { (c : ℕ) (rest : List ℕ) → Char s.now c rest → MatchOption result ⊥ (λ p. (p.0 ≡ c) × (p.1.now ≡ rest)) }
-    ensures place { IfSome result (λ p. (p.1.ptr.0 ≡ s.entry.ref_ptr.0) × (p.1.ptr.1 ≡ s.entry.ref_ptr.1 + length (octets p.0))) }
+    ensures place { IfSome result (λ p. (p.1.ref_ptr.0 ≡ s.entry.ref_ptr.0) × (p.1.ref_ptr.1 ≡ s.entry.ref_ptr.1 + length (octets p.0))) }
     ensures standard { (c : ℕ) → AsStd c }
 {
     match s {

@@ -1,4 +1,6 @@
 // Replays the vectors in the folder that it is run in, and prints their traces.
+#![tactic(auto)]
+
 use anyhow::anyhow;
 use runner::run::replay;
 use std::fs;

@@ -16,7 +16,7 @@ loop-b-preserved c =
     let b : ℕ = c.in-Some.b in
     let inv = c.loop-b.invariant in
     let bs : List ℕ = inv.0 in
-    let added : vec_items c.put-byte.new.out ≡ vec_items c.put.new.out ++ escaped (bs ++ b ∷ []) = c.in-ok-put-byte.ensures ∙ ap (λ l. l ++ escaped_byte b) inv.1 ∙ flat_map_more escaped_byte (vec_items c.put.new.out) bs b in
+    let added : vec_items c.put_byte.new.out ≡ vec_items c.put.new.out ++ escaped (bs ++ b ∷ []) = c.in_ok-put_byte.ensures ∙ ap (λ l. l ++ escaped_byte b) inv.1 ∙ flat_map_more escaped_byte (vec_items c.put.new.out) bs b in
     (bs ++ b ∷ [], added, spelt_push inv.2 c.in-Some.ensures)
 
 pub returns : goal.returns
@@ -24,4 +24,4 @@ returns c =
     let inv = c.loop-b.invariant in
     let bs : List ℕ = inv.0 in
     let s = vec_items c.args.out.now in
-    (bs, record { left = _; spelt = inv.2; ends = c.in-default.ensures }, inv.1 ∙ ap (λ l. l ++ escaped bs) c.in-ok-put.ensures ∙ append_assoc s c.args.name.now (escaped bs))
+    (bs, record { left = _; spelt = inv.2; ends = c.in_default.ensures }, inv.1 ∙ ap (λ l. l ++ escaped bs) c.in_ok-put.ensures ∙ append_assoc s c.args.name.now (escaped bs))

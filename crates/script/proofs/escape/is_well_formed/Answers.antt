@@ -14,4 +14,4 @@ pub loop-tail-preserved : goal.loop-tail-preserved
 loop-tail-preserved c = (_, spelt_push c.loop-tail.invariant.1 c.in-Some.ensures)
 
 pub returns : goal.returns
-returns c = Decides-at _ _ c.is-empty.ensures (well_formed_is c.loop-tail.invariant.1 c.in-default.ensures)
+returns c = Decides-at _ _ c.is_empty.ensures (well_formed_is c.loop-tail.invariant.1 c.in_default.ensures)

@@ -14,5 +14,5 @@ pub loop-b-preserved : goal.loop-b-preserved
 loop-b-preserved c =
     let b : ℕ = c.in-Some.b in
     let inv = c.loop-b.invariant in
-    let added = pushed (b ∷ []) inv.1 c.in-ok-push.was c.push.ensures.items in
+    let added = pushed (b ∷ []) inv.1 c.in_ok-push.was c.push.ensures.items in
     (inv.0 ++ b ∷ [], added ∙ append_assoc (vec_items c.args.out.now) inv.0 (b ∷ []), spelt_push inv.2 c.in-Some.ensures)

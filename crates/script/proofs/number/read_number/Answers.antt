@@ -5,8 +5,8 @@ use Rattle.std.proofs.lemmas.Str.Parse.{digit_at}
 use Rattle.script.proofs.number.read_number.Goals as goal
 
 -- digits are ASCII
-pub returns-in-default : goal.returns-in-default
-returns-in-default c n h = c.in-default.ensures.cases.0 (IsUtf8-from_ascii _ (IsAscii-from_digits _ h.digits.1))
+pub returns-in_default : goal.returns-in_default
+returns-in_default c n h = c.in_default.ensures.cases.0 (IsUtf8-from_ascii _ (IsAscii-from_digits _ h.digits.1))
 
 pub returns-in-43 : goal.returns-in-43
 returns-in-43 c n h =

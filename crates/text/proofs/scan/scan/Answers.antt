@@ -5,8 +5,8 @@ use Rattle.text.proofs.scan.scan.Goals as goal
 pub loop-rest-init : goal.loop-rest-init
 loop-rest-init g c = first _ _ _ _ _ c.new-reader.ensures c.start-metrics.ensures
 
-pub returns-in-default : goal.returns-in-default
-returns-in-default g c = no_char _ _ _ _ _ _ c.loop-rest.invariant (search rules) c.in-default.ensures.read
+pub returns-in_default : goal.returns-in_default
+returns-in_default g c = no_char _ _ _ _ _ _ c.loop-rest.invariant (search rules) c.in_default.ensures.read
 
 pub returns-in-Refused : goal.returns-in-Refused
 returns-in-Refused g c = refused _ _ _ _ _ _ _ _ c.loop-rest.invariant c.in-Some.ensures.read c.in-Refused.ensures.value
@@ -24,11 +24,11 @@ loop-rest-smaller g c = shorter _ _ _ c.in-Some.ensures.read
 pub loop-rest-preserved : goal.loop-rest-preserved
 loop-rest-preserved g c = colour _ _ _ _ _ _ _ _ _ c.loop-rest.invariant c.in-Some.ensures.read c.in-Colour.ensures.value c.read.ensures.state
 
-pub returns-then-is-ground : goal.returns-then-is-ground
-returns-then-is-ground g c = done _ _ _ _ _ _ c.loop-rest.invariant (search rules) c.if-is-ground.ensures
+pub returns-then-is_ground : goal.returns-then-is_ground
+returns-then-is_ground g c = done _ _ _ _ _ _ c.loop-rest.invariant (search rules) c.if-is_ground.ensures
 
-pub returns-else-is-ground : goal.returns-else-is-ground
-returns-else-is-ground g c = open_end _ _ _ _ _ _ c.loop-rest.invariant (search rules) c.if-is-ground.ensures
+pub returns-else-is_ground : goal.returns-else-is_ground
+returns-else-is_ground g c = open_end _ _ _ _ _ _ c.loop-rest.invariant (search rules) c.if-is_ground.ensures
 
 pub place-metrics-requires : goal.place-metrics-requires
 place-metrics-requires g c = (search rules, omega (arith, c.loop-rest.invariant.column), omega (arith, c.width.ensures, (g.R.WidthRule.lawful c.args.rule.now).narrow c.in-Some.c))

@@ -8,15 +8,15 @@ pub returns-then-n-lt10 : goal.returns-then-n-lt10
 returns-then-n-lt10 t c =
     subst (λ (l : List ℕ). Appends l (vec_items c.args.out.now) c.put.result (vec_items c.put.new.out)) (sym (decimal_digit c.args.n (omega arith))) c.put.ensures
 
-pub returns-in-err-put-decimal : goal.returns-in-err-put-decimal
-returns-in-err-put-decimal t c =
+pub returns-in_err-put_decimal : goal.returns-in_err-put_decimal
+returns-in_err-put_decimal t c =
     let n : ℕ = c.args.n in
     let last : List ℕ = (48 + n % 10) ∷ [] in
     let step = decimal_step n (omega arith) (search rules) in
-    let r = c.from-residual.result in
+    let r = c.from_residual.result in
     let s = vec_items c.args.out.now in
-    let v = vec_items c.put-decimal.new.out in
-    subst (λ (l : List ℕ). Appends l s r v) (sym step) (stopped_at (decimal (n / 10) ++ last) s v r c.from-residual.ensures.0 (front_more last c.in-err-put-decimal.ensures))
+    let v = vec_items c.put_decimal.new.out in
+    subst (λ (l : List ℕ). Appends l s r v) (sym step) (stopped_at (decimal (n / 10) ++ last) s v r c.from_residual.ensures.0 (front_more last c.in_err-put_decimal.ensures))
 
 pub returns : goal.returns
 returns t c =
@@ -24,4 +24,4 @@ returns t c =
     let step = decimal_step n (omega arith) (search rules) in
     let s = vec_items c.args.out.now in
     let v = vec_items c.put-2.new.out in
-    subst (λ (l : List ℕ). Appends l s c.put-2.result v) (sym step) (and_then (decimal (n / 10)) ((48 + n % 10) ∷ []) s (vec_items c.put-decimal.new.out) v c.put-2.result c.in-ok-put-decimal.ensures c.put-2.ensures)
+    subst (λ (l : List ℕ). Appends l s c.put-2.result v) (sym step) (and_then (decimal (n / 10)) ((48 + n % 10) ∷ []) s (vec_items c.put_decimal.new.out) v c.put-2.result c.in_ok-put_decimal.ensures c.put-2.ensures)
