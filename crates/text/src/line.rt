@@ -26,7 +26,7 @@ impl<'a> LineType<'a> {
     }
 
     pub fn wrapped_metrics<R: WidthRule>(self, width: usize, rule: &R) -> Result<Metrics, Refusal>
-        ensures { Measured width (cells rule.now) (bytes self.entry) result }
+        ensures { Measured width (R.cells rule.now) (bytes self.entry) result }
     {
         measure(width, rule, self.as_bytes())
     }
@@ -38,7 +38,7 @@ pub fn visual_line_count<R: WidthRule>(
     width: usize,
     rule: &R,
 ) -> Result<VisualLines, Refusal>
-    ensures { Counted width (cells rule.now) lines.now result }
+    ensures { Counted width (R.cells rule.now) lines.now result }
 {
     let mut rows = VisualLines::new(0);
     for line in lines {

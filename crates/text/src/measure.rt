@@ -13,7 +13,7 @@ pub const MOST_WIDTH: usize = 512;
 pub const MOST_BYTES: usize = 128;
 
 pub fn measure<R: WidthRule>(width: usize, rule: &R, text: &[u8]) -> Result<Metrics, Refusal>
-    ensures { Measured width (cells rule.now) text.now result }
+    ensures { Measured width (R.cells rule.now) text.now result }
 {
     if width < LEAST_WIDTH || MOST_WIDTH < width {
         return Err(Refusal::Size);

@@ -10,7 +10,7 @@ use utf8::decode;
 
 pub(crate) fn scan<R: WidthRule>(width: usize, rule: &R, text: &[u8]) -> Option<Metrics>
     requires { width ≤ 512 }
-    ensures { MatchOption result (admissible text.now ≡ false) (λ m. (admissible text.now ≡ true) × (m ≡ measured width (cells rule.now) text.now)) }
+    ensures { MatchOption result (admissible text.now ≡ false) (λ m. (admissible text.now ≡ true) × (m ≡ measured width (R.cells rule.now) text.now)) }
 {
     let mut reader = EscapeReader::new();
     let mut metrics = Metrics::start();

@@ -16,7 +16,7 @@ returns-in-Plain c =
 pub returns-in-House : goal.returns-in-House
 returns-in-House c =
     let s = vec_items c.args.out.now in
-    let end = vec_items c.put-text_in-House.new.out in
+    let end = vec_items c.put_text-in-House.new.out in
     let front = codes "measure " ++ decimal c.args.width in
-    subst (λ (u : Rule). RendersText (codes "measure " ++ (decimal c.args.width ++ (32 ∷ (named u ++ 32 ∷ [])))) c.args.text.now s c.put-text_in-House.result end) (sym c.in-House.is)
-    (text_then front (codes " house ") c.args.text.now s (vec_items c.put_numbered.new.out) end c.put-text_in-House.result c.in_ok-put_numbered.ensures c.put-text_in-House.ensures)
+    subst (λ (u : Rule). RendersText (codes "measure " ++ (decimal c.args.width ++ (32 ∷ (named u ++ 32 ∷ [])))) c.args.text.now s c.put_text-in-House.result end) (sym c.in-House.is)
+    (text_then front (codes " house ") c.args.text.now s (vec_items c.put_numbered.new.out) end c.put_text-in-House.result c.in_ok-put_numbered.ensures c.put_text-in-House.ensures)
