@@ -2,8 +2,7 @@
 """Outside vectors: replay scripts and the trace that they must give.
 
 The trace is computed here, by a reference that shares nothing with the crates: Python's own UTF-8 decoder,
-a regular expression for colour sequences, and the rules of measure, of the limiters and of terminals (terminals.py)
-written out once more.
+a regular expression for colour sequences, and the rules of measure and of the limiters written out once more.
 
     python3 compare/vectors.py            writes crates/vectors/data/*.rack, crates/vectors/stdout and crates/rack/stdout
     python3 compare/vectors.py --check    compares them; status 1 where one differs
@@ -12,8 +11,6 @@ written out once more.
 import re
 import sys
 from pathlib import Path
-
-from terminals import FINAL, MOST_BUFFER, Terminal, size_refused
 
 CRATE = Path(__file__).resolve().parent.parent / "crates" / "vectors"
 RACK = CRATE.parent / "rack"
@@ -156,7 +153,6 @@ class Replay:
     def __init__(self):
         self.limiter = None
         self.position = None
-        self.terminal = None
 
     def answer(self, line):
         verb, _, rest = line.partition(b" ")
@@ -165,50 +161,12 @@ class Replay:
         if verb == b"measure":
             width, rule, text = (rest.split(b" ", 2) + [b""])[:3]
             return measure(number(width), rule.decode(), meant(text))
-        if verb == b"op":
-            return self.operate(*(rest.split(b" ", 1) + [b""])[:2])
-        if line == b"screen":
-            return self.terminal.shown()
         words = rest.split(b" ")
-        if verb == b"terminal":
-            return self.make(words[0], words[-1].decode(), *map(number, words[1:-1]))
-        if verb == b"credit":
-            return self.fund(*words)
         if verb == b"limiter":
             return self.rate(*words)
         if verb == b"position":
             return self.place(*words)
         raise ValueError(line)
-
-    def make(self, kind, rule, *numbers):
-        buffer = None
-        if kind == b"bytes":
-            buffer, *numbers = numbers
-            if buffer > MOST_BUFFER:
-                raise ValueError(buffer)
-        elif kind != b"grid":
-            raise ValueError(kind)
-        width, height = numbers
-        if size_refused(width, height):
-            return "refused 1"
-        self.terminal = Terminal(width, height, RULES[rule], characters, buffer)
-        return "ok"
-
-    def fund(self, word):
-        if self.terminal.on_bytes:
-            raise ValueError(word)
-        self.terminal.credit = None if word == b"unlimited" else number(word)
-        return "ok"
-
-    def operate(self, name, argument):
-        name = name.decode()
-        if name in FINAL:
-            return self.terminal.operate(name, number(argument))
-        if name in ("write", "line"):
-            return self.terminal.operate(name, meant(argument))
-        if name not in ("clear", "return", "flush") or argument:
-            raise ValueError(name)
-        return self.terminal.operate(name)
 
     def rate(self, word, argument):
         if word == b"allow":
@@ -315,14 +273,6 @@ class Script:
 
     def measure(self, width, rule, text, expect=None, **how):
         self.put(b"measure %d %s %s" % (width, rule.encode(), spell(text, **how)), expect)
-
-    def operate(self, name, argument="", expect="ok"):
-        told = spell(argument) if isinstance(argument, bytes) else str(argument).encode()
-        self.put(b"op " + name.encode() + (b" " + told if told else b""), expect)
-
-    def screen(self, *rows, cursor=None):
-        shown = [f"|{row}|" for row in rows] + [f"cursor {cursor[0]} {cursor[1]}"] if cursor else None
-        self.put("screen", "\n".join(shown) if shown else None)
 
     def allow(self, who, now, *answers):
         """The same question, once for each answer."""
@@ -961,154 +911,6 @@ def limiters_rack():
     return s.finished(ended=False)
 
 
-# ---- terminals.rack
-
-NO_TEXT = ["clear", "return", "flush"]
-SIZES = [(1, 4), (2, 4), (512, 1), (513, 1), (4, 0), (4, 1), (2, 256), (2, 257), (0, 0), (LAST, LAST), (2**32, 2**32)]
-
-
-def edges(s, kind):
-    s.note(f"the limits of size: {kind}")
-    for w, h in SIZES:
-        s.put(f"terminal {kind} {w} {h} plain", "ok" if 2 <= w <= 512 and 1 <= h <= 256 else "refused 1")
-    s.put(f"terminal {kind} 3 2 plain", "ok")
-    s.operate("write", b"ab")
-    s.put(f"terminal {kind} 1 2 plain", "refused 1")
-    s.screen("ab ", "   ", cursor=(0, 2))
-
-    s.note(f"moves at each border: {kind}")
-    for n in [0, 1, LAST]:
-        for way in FINAL:
-            s.put(f"terminal {kind} 3 2 plain", "ok")
-            s.operate("write", b"abc")
-            s.operate(way, n)
-            s.put("screen")
-            s.operate("line", b"xyz")
-            s.operate(way, n)
-            s.operate(way, n)
-            s.put("screen")
-
-    s.note(f"the last column: {kind}")
-    s.put(f"terminal {kind} 4 2 house", "ok")
-    s.operate("write", "abc一".encode())
-    s.screen("abc ", "一  ", cursor=(1, 2))
-    s.operate("left", 2)
-    s.operate("up", 1)
-    s.operate("right", 3)
-    s.operate("write", "x́y".encode())
-    s.screen("abcx", "y  ", cursor=(1, 1))
-    s.operate("right", LAST)
-    s.operate("write", "一".encode())
-    s.screen("y  ", "一  ", cursor=(1, 2))
-    s.operate("write", "二".encode())
-    s.operate("write", b"\xcc\x81")
-    s.screen("y  ", "一二", cursor=(1, 4))
-    s.operate("return")
-    s.operate("right", 1)
-    s.operate("write", b"z")
-    s.screen("y  ", "一z二", cursor=(1, 2))
-    s.operate("clear")
-    s.screen("y  ", "    ", cursor=(1, 0))
-
-    s.note(f"next rows and scrolls: {kind}")
-    s.put(f"terminal {kind} 2 2 plain", "ok")
-    for text in [b"ab", b"", b"cde", b"f"]:
-        s.operate("line", text)
-        s.put("screen")
-    s.operate("write", b"ghijk")
-    s.screen("ij", "k ", cursor=(1, 1))
-    s.put(f"terminal {kind} 2 1 plain", "ok")
-    s.operate("line", b"ab")
-    s.screen("  ", cursor=(0, 0))
-
-    s.note(f"text: {kind}")
-    s.put(f"terminal {kind} 8 2 house", "ok")
-    s.operate("write", b"\x1b[31mred\x1b[0m", "ok")
-    for text in [b"\x1b[2K", b"\r", b"\n", b"\x7f", b"\xc2\x9f", b"\xff", b"\x1b[", b"ok\xe4\xb8"]:
-        s.operate("write", text, "refused 6")
-        s.operate("line", text, "refused 6")
-    s.operate("return")
-    s.operate("write", b"\x1b[2mR")
-    s.screen("Red     ", "        ", cursor=(0, 1))
-
-
-def short_buffers(s):
-    s.note("a buffer that is exact, and one that is a byte short, for each operation")
-    costs = [(name, "", {"clear": 5, "return": 1, "flush": 0}[name]) for name in NO_TEXT]
-    costs += [("write", b"", 0), ("write", b"abc", 3), ("line", b"", 1), ("line", b"abc", 4)]
-    for n in [0, 1, 9, 10, 4294967296, 9999999999999999999, 10000000000000000000, LAST]:
-        costs += [(way, n, len(str(n)) + 3 if n else 0) for way in FINAL]
-    for name, argument, cost in costs:
-        for size in {cost, max(0, cost - 1)}:
-            s.put(f"terminal bytes {size} 4 2 plain", "ok")
-            s.operate(name, argument, "ok" if size == cost else "refused 9")
-            s.put("screen")
-            s.operate("write", b"x" * (0 if size == cost else size), "ok")
-            s.operate("write", b"x", "refused 9")
-            s.put("screen")
-
-
-def credits(s):
-    s.note("credit on a grid: the order of the refusals, and what one leaves")
-    s.put("terminal grid 4 2 plain", "ok")
-    s.put("credit 3", "ok")
-    s.operate("write", b"abcd", "refused 9")
-    s.operate("write", b"ab\x07d", "refused 6")
-    s.screen("    ", "    ", cursor=(0, 0))
-    s.operate("write", b"abc", "ok")
-    s.operate("return", expect="refused 9")
-    s.operate("flush")
-    s.operate("up", 0)
-    s.operate("write", b"", "ok")
-    s.operate("up", 1, "refused 9")
-    s.screen("abc ", "    ", cursor=(0, 3))
-    s.put(f"credit {LAST}", "ok")
-    s.operate("up", LAST)
-    s.put("credit 23", "ok")
-    s.operate("left", LAST)
-    s.operate("right", 1, "refused 9")
-    s.put("credit unlimited", "ok")
-    s.operate("line", b"xyz")
-    s.screen("xyz ", "    ", cursor=(1, 0))
-    s.put("terminal grid 4 2 plain", "ok")
-    s.operate("write", b"anew")
-    s.screen("anew", "    ", cursor=(0, 4))
-
-
-WORDS = [b"a", b"bc", b"def", b"", b" ", b"ghijklmn", "一".encode(), "x一y二".encode(), "e\u0301".encode(), "\u0301".encode(), b"\x1b[1;32mok\x1b[m", b"\x1b[2mdim", b"\x1b[2K", b"a\tb", b"\xe4\xb8", "\U0001f40e".encode()]
-
-
-def random_ops(s, kind, dice):
-    rule = dice.one_of(["plain", "house"])
-    width, height = 2 + dice.below(5), 1 + dice.below(4)
-    size = f"bytes {dice.below(60)}" if kind == "bytes" else "grid"
-    s.put(f"terminal {size} {width} {height} {rule}", "ok")
-    for _ in range(12):
-        pick = dice.below(12)
-        if pick < 4:
-            s.operate(dice.one_of(list(FINAL)), dice.one_of([0, 1, 1, 2, 3, LAST]), None)
-        elif pick < 7:
-            s.operate(dice.one_of(NO_TEXT), expect=None)
-        elif pick == 7 and kind == "grid":
-            s.put(f"credit {dice.one_of(['unlimited', dice.below(12)])}", "ok")
-        else:
-            s.operate(dice.one_of(["write", "write", "line"]), dice.one_of(WORDS), None)
-        s.put("screen")
-
-
-def terminals_rack():
-    s = Script()
-    edges(s, "grid")
-    edges(s, "bytes 4096")
-    short_buffers(s)
-    credits(s)
-    s.note("random operations")
-    dice = Dice(3)
-    for i in range(60):
-        random_ops(s, ["grid", "bytes"][i % 2], dice)
-    return s.finished()
-
-
 # ---- The files
 
 
@@ -1125,7 +927,6 @@ def files():
         "colour.rack": colour_rack(),
         "measure.rack": measure_rack(),
         "limiters.rack": limiters_rack(),
-        "terminals.rack": terminals_rack(),
     }
     out = {CRATE / "data" / name: script for name, script in scripts.items()}
     out[CRATE / "stdout"] = b"".join(b"== %s\n%s" % (name.encode(), trace(script)) for name, script in scripts.items())

@@ -23,27 +23,4 @@ position get
 position allow 1000000000
 position reset 1002000000
 position get
-# a console of 16 columns and 3 rows: a remark, a bar, and the bar drawn again
-terminal grid 16 3 house
-op line \\x1b[32mcard 3: erase ok\\x1b[0m
-op write \\xe5\\x8d\\xa1 4 [####    ]
-screen
-op clear
-op write \\xe5\\x8d\\xa1 4 [########]
-op flush
-screen
-# with 4 bytes of credit left: what is too dear is refused and leaves the console as it was
-credit 4
-op clear
-op up 1
-op return
-screen
-# the same console as a channel of 24 bytes
-terminal bytes 24 16 3 house
-op line card 3: erase ok
-op write \\x07
-op clear
-op write card
-op flush
-screen
 ";

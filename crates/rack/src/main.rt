@@ -9,6 +9,7 @@ use runner::run::replay;
 use runner::stop::Stop;
 use runner::summary::Summary;
 use std::io::{Read, Write};
+use std::process::ExitCode;
 use std::{env, fs};
 
 const USAGE: &str = "usage: rack, rack [--summary] FILE, rack [--summary] -";
@@ -70,18 +71,18 @@ fn run_words(rt: &HostRuntime) -> anyhow::Result<bool> {
             if option.as_str() == "--summary" {
                 run_source(rt, source.as_str(), true)
             } else {
-                Err(USAGE.into())
+                Err(anyhow!(USAGE))
             }
         }
-        _ => Err(USAGE.into()),
+        _ => Err(anyhow!(USAGE)),
     }
 }
 
-fn main(rt: HostRuntime) -> anyhow::Result<()> {
-    match run_words(&rt) {
-        Ok(true) => Ok(()),
+fn main(rt: HostRuntime) -> anyhow::Result<ExitCode> {
+    if run_words(&rt)? {
+        Ok(ExitCode::SUCCESS)
+    } else {
         // its reason is printed already
-        Ok(false) => Err(anyhow!("the script stopped")),
-        Err(error) => Err(error),
+        Ok(ExitCode::FAILURE)
     }
 }

@@ -25,14 +25,14 @@ pub enum Operation<'a> {
 
 // Does one operation on a terminal.
 pub fn operate<T: TermLike>(term: &mut T, operation: Operation<'_>) -> Result<(), Refusal>
-    ensures answered { Answered funds steps (meant operation.entry) term.old result term.new }
-    ensures rows { (text : List ℕ) → meant operation.entry ≡ Write text → code result ≡ 0 → ShowsMeasured (characters text) (meaning term.old) (meaning term.new) }
+    ensures answered { Answered T.funds T.steps (meant operation.entry) term.old result term.new }
+    ensures rows { (text : List ℕ) → meant operation.entry ≡ Write text → code result ≡ 0 → ShowsMeasured (characters text) (T.meaning term.old) (T.meaning term.new) }
 {
     dispatch(term, operation)
 }
 
 fn dispatch<T: TermLike>(term: &mut T, operation: Operation<'_>) -> Result<(), Refusal>
-    ensures { Answered funds steps (meant operation.entry) term.old result term.new }
+    ensures { Answered T.funds T.steps (meant operation.entry) term.old result term.new }
 {
     match operation {
         Operation::Up(n) => (*term).move_cursor_up(n),
