@@ -2,14 +2,12 @@
 use Rattle.std.proofs.Common.{◌≡◌, ℕ, suc, ◌+◌, ◌<◌, ◌≤◌, true, false, ◌⊎◌, List, [], ◌∷◌, ◌++◌, length, sym, refl, ap, ◌∙◌, subst, inl, inr, append_assoc, append-nil, add_assoc, arith, length-append}
 use Rattle.trace.specs.declared.answer.Answer.{Answer}
 use Rattle.trace.specs.declared.answer.Answer.TheVariants as answers
-use Rattle.replay.specs.declared.command.Fault.{Fault}
-use Rattle.replay.specs.Commands.{Refused}
 use Rattle.script.specs.Scripts.{Line, Skipped}
 use Rattle.trace.specs.Traces.{traced}
 use Rattle.runner.specs.declared.stop.Halt.{Halt}
 use Rattle.runner.specs.declared.stop.Halt.TheVariants as halts
 use Rattle.runner.specs.Answers.{State, nothing}
-use Rattle.runner.specs.Runs.{Played, Missing, Tally, none, refusals, counted, Ending, complete, faulty, missing, below, Replayed, ended, skip, play, refuse, lack, Ran}
+use Rattle.runner.specs.Runs.{Played, Tally, none, refusals, counted, Ending, complete, faulty, missing, below, Replayed, ended, skip, play, refuse, lack, Ran}
 use Rattle.runner.specs.Stops.{Halted, stopped}
 use Rattle.runner.specs.Tallies.{counted_in}
 

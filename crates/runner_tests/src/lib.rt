@@ -20,7 +20,7 @@ mod tests {
                 assert_eq!(rt; stop.halt.message(), "unknown command");
             }
         }
-        assert_eq!(rt; out.as_slice(), b"> admit a\nok\n");
+        assert_eq!(rt; out.as_slice(), b"> admit a\nok\n".as_slice());
         Ok(())
     }
 
@@ -48,7 +48,7 @@ mod tests {
                 assert_eq!(rt; stop.halt.message(), "no limiter of this kind was made");
             }
         }
-        assert_eq!(rt; out.as_slice(), b"> position 5\nok\n");
+        assert_eq!(rt; out.as_slice(), b"> position 5\nok\n".as_slice());
         Ok(())
     }
 
@@ -64,7 +64,7 @@ mod tests {
         }
         assert_eq!(rt;
             out.as_slice(),
-            b"> limiter 0 1\nrefused 3\n> admit \\x07\nrefused 6\n> admit\nok\n"
+            b"> limiter 0 1\nrefused 3\n> admit \\x07\nrefused 6\n> admit\nok\n".as_slice()
         );
         Ok(())
     }

@@ -1,17 +1,16 @@
 -- Writing a line on blank rows. Assumes nothing.
-use Rattle.std.proofs.Common.{◌≡◌, ℕ, zero, suc, ◌+◌, ◌-◌, ◌*◌, ◌<◌, ◌≤◌, Bool, true, false, cond, ltb, List, [], ◌∷◌, ◌++◌, length, set, replicate, Option, Result, sym, refl, ap, ◌∙◌, subst, append_assoc, append-nil, arith, length-append, lt-ltb}
+use Rattle.std.proofs.Common.{◌≡◌, ℕ, zero, suc, ◌+◌, ◌-◌, ◌*◌, ◌<◌, ◌≤◌, cond, List, [], ◌∷◌, ◌++◌, length, set, replicate, Option, Result, sym, refl, ap, ◌∙◌, subst, append_assoc, append-nil, arith, length-append, lt-ltb}
 use lib.ListN.{length-replicate, replicate-append-replicate}
 use Rattle.std.proofs.lemmas.Bool.{le-ltb}
-use Rattle.text.specs.declared.metrics.Metrics.{Metrics}
 use Rattle.text.specs.Width.{Rule}
-use Rattle.text.specs.Rows.{span, Rows, last, wrap, join, final, Measures, wraps}
+use Rattle.text.specs.Rows.{span, Rows, last, wrap, join, final}
 use Rattle.refusal.specs.declared.Refusal.{Refusal}
 use Rattle.refusal.specs.Numbers.{code}
 use Rattle.text.specs.Texts.{characters}
 use Rattle.terminal.specs.Screen.{Page, Screen, Sound}
 use Rattle.terminal.specs.Steps.{Answered, TermLaws}
 use Rattle.terminal.specs.Operations.{Op, Write, below, scrolled, next_row, roomy, celled, inked, written}
-use Rattle.terminal.specs.Rows.{glyph, glyphs, laid, Ahead, Lies, ShowsMeasured}
+use Rattle.terminal.specs.Rows.{glyph, glyphs, laid, ShowsMeasured}
 
 set_here : (xs : List ℕ) (x v : ℕ) (ys : List ℕ) (i : ℕ) → length xs ≡ i → set (xs ++ (x ∷ ys)) i v ≡ xs ++ (v ∷ ys)
 set_here [] x v ys zero e = refl
