@@ -2,7 +2,7 @@
 use Rattle.std.proofs.Common.{◌≡◌, ℕ, ◌+◌, ◌*◌, ◌/◌, ◌%◌, ◌^◌, ◌<◌, Bool, true, false, not, ◌&&◌, ◌||◌, eqb, ltb, leb, List, [], ◌∷◌, ◌++◌, Some, None, Ok, Err, codes, decimal, Result, sym, refl, subst, ⊎_elim, arith, MatchResult}
 use Rattle.std.specs.Str.Parse.{AllDigits}
 use Rattle.std.specs.Char.{digit_value, digit_char}
-use Rattle.std.specs.List.{AllByRecursion as All}
+use Rattle.std.specs.List.{AllByRecursion}
 use Rattle.std.proofs.lemmas.Fmt.{decimal_is_IsNumeral}
 use Rattle.std.proofs.lemmas.Bool.{and_parts, not-true, eqb-false, cases_eq, ne_eqb}
 use Rattle.std.proofs.lemmas.Str.{digit_value-digit_char}
@@ -20,7 +20,7 @@ use Rattle.replay.specs.Rendering.{escaped_byte, escaped, rendering, InRange}
 use Rattle.script.proofs.Cutting.{cut_none, cut_past, cut_join}
 
 abbrev Solid : List ℕ → Type 0
-Solid w = All (λ b. b ≡ 32 → ⊥) w
+Solid w = AllByRecursion (λ b. b ≡ 32 → ⊥) w
 
 abbrev solid : List ℕ → Bool
 solid [] = true
@@ -78,7 +78,7 @@ byte_escaped b rest h =
     other n m true e = let x = ne_eqb b 92 n in let y = ne_eqb b 10 m in simp (x, y, e) (coded_byte b rest h)
     other n m false e = let x = ne_eqb b 92 n in let y = ne_eqb b 10 m in simp (x, y, e) (itself n)
 
-meant_escaped : (bs : List ℕ) → All (λ b. b < 256) bs → Meant (escaped bs) bs
+meant_escaped : (bs : List ℕ) → AllByRecursion (λ b. b < 256) bs → Meant (escaped bs) bs
 meant_escaped [] h = none
 meant_escaped (b ∷ bs) h = more (byte_escaped b (escaped bs) h.0) (meant_escaped bs h.1)
 

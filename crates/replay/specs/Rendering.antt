@@ -1,7 +1,7 @@
 -- The canonical line of an order.
 use Rattle.std.specs.Prelude.{◌≡◌, ℕ, ◌/◌, ◌%◌, ◌^◌, ◌<◌, ◌≤◌, cond, ◌||◌, List, [], ◌∷◌, ◌++◌, decimal, Result, OnOk, ◌==◌, nat_le, nat_lt}
 use Rattle.std.specs.Char.{digit_char}
-use Rattle.std.specs.List.{flat_map, AllByRecursion as All}
+use Rattle.std.specs.List.{flat_map, AllByRecursion}
 use Rattle.replay.specs.declared.command.Command.{Command}
 use Rattle.replay.specs.Commands.{Says}
 use Rattle.script.specs.Escapes.{Means}
@@ -32,8 +32,8 @@ rendering o = lined (parts o)
 
 -- the numbers that a command can hold
 abbrev pub InRange : Order → Type 0
-InRange (measure w u t) = (w < 2 ^ 64) × All (λ b. b < 256) t
-InRange (admit t) = All (λ b. b < 256) t
+InRange (measure w u t) = (w < 2 ^ 64) × AllByRecursion (λ b. b < 256) t
+InRange (admit t) = AllByRecursion (λ b. b < 256) t
 InRange (limiter r s) = (r ≤ 255) × (s < 2 ^ 64)
 InRange (limiter_allow n) = n < 2 ^ 64
 InRange (position n) = n < 2 ^ 64

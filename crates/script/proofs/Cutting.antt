@@ -1,6 +1,6 @@
 -- A cut, from its front on.
 use Rattle.std.proofs.Common.{◌≡◌, ℕ, zero, suc, ◌<◌, true, false, eqb, List, [], ◌∷◌, ◌++◌, length, get_or, take, drop, Some, None, Option, refl, ap, arith}
-use Rattle.std.specs.List.{AllByRecursion as All}
+use Rattle.std.specs.List.{AllByRecursion}
 use Rattle.std.proofs.lemmas.Bool.{eq-eqb, ne_eqb}
 use Rattle.script.specs.Cuts.{led, Cut}
 
@@ -29,7 +29,7 @@ cut_nowhere at [] none = cut_none at
 cut_nowhere at (b ∷ bs) none = cut_past (none 0 (omega arith)) (cut_nowhere at bs (λ k l. none (suc k) (omega arith)))
 
 -- a front with no `at` is the front of a cut
-pub cut_join : (at : ℕ) (front : List ℕ) (rest : Option (List ℕ)) → All (λ b. b ≡ at → ⊥) front → Cut at (front ++ led at rest) front rest
+pub cut_join : (at : ℕ) (front : List ℕ) (rest : Option (List ℕ)) → AllByRecursion (λ b. b ≡ at → ⊥) front → Cut at (front ++ led at rest) front rest
 cut_join at [] None h = cut_none at
 cut_join at [] (Some bs) h = cut_here at at bs refl
 cut_join at (b ∷ front) rest h = cut_past h.0 (cut_join at front rest h.1)

@@ -1,6 +1,6 @@
 -- A run of bytes cut at the first byte of one value: a script at its line ends, a line at its spaces.
 use Rattle.std.specs.Prelude.{◌≡◌, ℕ, cond, List, [], ◌∷◌, ◌++◌, Some, None, Option, ◌==◌, ◌≢◌}
-use Rattle.std.specs.List.{AllByRecursion as All}
+use Rattle.std.specs.List.{AllByRecursion}
 
 -- what stands before the first `at`
 abbrev pub before : ℕ → List ℕ → List ℕ
@@ -22,4 +22,4 @@ pub record Cut (at : ℕ) (bs front : List ℕ) (rest : Option (List ℕ)) : Typ
   pub front_is : front ≡ before at bs
   pub rest_is : rest ≡ behind at bs
   pub whole : bs ≡ front ++ led at rest
-  pub free : All (λ b. b ≢ at) front
+  pub free : AllByRecursion (λ b. b ≢ at) front
