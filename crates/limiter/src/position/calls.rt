@@ -1,4 +1,4 @@
-// Setting a position, and asking its limiter. A clause writes `x.now` for `now x`: a parameter has that name.
+// Setting a position, and asking its limiter.
 ghost use Rattle.std.specs.Prelude.{◌≡◌, ℕ, ◌≤◌, true};
 ghost use Rattle.limiter.specs.Standing.{standing, fresh, since, grants, granted, placed, restarted};
 ghost use Rattle.limiter.specs.Course.{Polled, Course, Paced};

@@ -1,4 +1,4 @@
-// Making a rate limiter, and asking it. A clause writes `x.now` for `now x`: a parameter has that name.
+// Making a rate limiter, and asking it.
 ghost use Rattle.std.specs.Prelude.{◌≡◌, ℕ, ◌<◌, true, List, [], IfOk, MatchResult};
 ghost use Rattle.refusal.specs.declared.Refusal.TheVariants.{Rate};
 ghost use Rattle.limiter.specs.History.{Asked, Run, Rationed};
