@@ -1,7 +1,7 @@
 #!/usr/bin/env python3
 """The byte terminal beside a real terminal emulator, tmux.
 
-    rt check rack && python3 compare/tmux.py [RUNS [SEED]]
+    (cd crates/rack && rt run) && python3 compare/tmux.py [RUNS [SEED]]
 
 Each run is a random script on a byte terminal. `rack --raw` writes its bytes, tmux shows them in a pane of the same
 size, and tmux's screen and cursor must be those that `rack` prints for `screen`. Where tmux is known to differ
@@ -17,7 +17,7 @@ from pathlib import Path
 from terminals import FINAL, Terminal
 from vectors import RULES, Dice, characters, spell
 
-RACK = Path(__file__).resolve().parent.parent / "target" / "bin" / "rack"
+RACK = Path(__file__).resolve().parent.parent / "crates" / "rack" / "out" / "rack"
 SOCKET = "rigolzoe-compare"
 WORDS = [b"a", b"bc", b"def", b"", b" ", b"ghijklmn", "一".encode(), "x一y二".encode(), "e\u0301".encode(), b"\x1b[1;32mok\x1b[m", b"\x1b[2mdim"]
 
