@@ -4,7 +4,7 @@ use lib.Seq.{drop-length}
 use Rattle.escape.specs.declared.reader.State.{State}
 use Rattle.escape.specs.declared.reader.State.TheVariants.{Ground, Escaped, Parameters, Intermediates}
 use Rattle.escape.specs.declared.reader.Verdict.{Verdict}
-use Rattle.escape.specs.declared.reader.Verdict.TheVariants.{Plain, Colour, Refused}
+use Rattle.escape.specs.declared.reader.Verdict.TheVariants.{Plain, Colour}
 use Rattle.escape.specs.Reader.{verdict, after, ended}
 use Rattle.escape.specs.Grammar.{Heads}
 use Rattle.escape.specs.Reading.{one_more, closes, closing}
@@ -23,28 +23,28 @@ plus_more i None = refl
 plus_more i (Some n) = ap Some (let e : i + suc n ≡ i + 1 + n = omega arith in e)
 
 -- one step of the reader, at the place i
-stepped : (s : List ℕ) (i : ℕ) (st st' : State) (v : Verdict) → i < length s → Sofar s i st → v ≡ verdict st (get_or s i 0) → st' ≡ after st (get_or s i 0)
+stepped : (s : List ℕ) (i : ℕ) (st st' : State) (v : Option Verdict) → i < length s → Sofar s i st → v ≡ verdict st (get_or s i 0) → st' ≡ after st (get_or s i 0)
     → plus i (closes v st' (closing st' (drop (i + 1) s))) ≡ closing Ground s
 stepped s i st st' v h inv p q =
     let e : drop i s ≡ get_or s i 0 ∷ drop (i + 1) s = rw (add-one) (drop-cons s i 0 h) in
     (λ k. plus i (closes (p k) (q k) (closing (q k) (drop (i + 1) s)))) ∙ ap (λ l. plus i (closing st l)) (sym e) ∙ inv
 
-closed_state : (st : State) (r : Option ℕ) → ended st ≡ true → closes Colour st r ≡ Some 1
+closed_state : (st : State) (r : Option ℕ) → ended st ≡ true → closes (Some Colour) st r ≡ Some 1
 closed_state Ground r e = refl
 closed_state Escaped r e = absurd (let z : ◌≡◌ {A = ℕ} 0 1 = cc in omega arith)
 closed_state Parameters r e = absurd (let z : ◌≡◌ {A = ℕ} 0 1 = cc in omega arith)
 closed_state Intermediates r e = absurd (let z : ◌≡◌ {A = ℕ} 0 1 = cc in omega arith)
 
 module _ (s : List ℕ) (i : ℕ) (st st' : State) (h : i < length s) (inv : Sofar s i st) (q : st' ≡ after st (get_or s i 0)) where
-  pub more : Colour ≡ verdict st (get_or s i 0) → false ≡ ended st' → Sofar s (i + 1) st'
-  more p e = sym (plus_more i _) ∙ ap (plus i) (sym (closes_on st' _ (sym e))) ∙ stepped s i st st' Colour h inv p q
+  pub more : (Some Colour) ≡ verdict st (get_or s i 0) → false ≡ ended st' → Sofar s (i + 1) st'
+  more p e = sym (plus_more i _) ∙ ap (plus i) (sym (closes_on st' _ (sym e))) ∙ stepped s i st st' (Some Colour) h inv p q
 
-  pub found : Colour ≡ verdict st (get_or s i 0) → true ≡ ended st' → closing Ground s ≡ Some (i + 1)
-  found p e = sym (stepped s i st st' Colour h inv p q) ∙ ap (plus i) (closed_state st' _ (sym e))
+  pub found : (Some Colour) ≡ verdict st (get_or s i 0) → true ≡ ended st' → closing Ground s ≡ Some (i + 1)
+  found p e = sym (stepped s i st st' (Some Colour) h inv p q) ∙ ap (plus i) (closed_state st' _ (sym e))
 
-  pub refused : (v : Verdict) → (v ≡ Plain) ⊎ (v ≡ Refused) → v ≡ verdict st (get_or s i 0) → closing Ground s ≡ None
-  refused v (inl e) p = sym (stepped s i st st' Plain h inv (sym e ∙ p) q)
-  refused v (inr e) p = sym (stepped s i st st' Refused h inv (sym e ∙ p) q)
+  pub refused : (v : Option Verdict) → (v ≡ (Some Plain)) ⊎ (v ≡ None) → v ≡ verdict st (get_or s i 0) → closing Ground s ≡ None
+  refused v (inl e) p = sym (stepped s i st st' (Some Plain) h inv (sym e ∙ p) q)
+  refused v (inr e) p = sym (stepped s i st st' None h inv (sym e ∙ p) q)
 
 pub unclosed : (s : List ℕ) (st : State) → Sofar s (length s) st → closing Ground s ≡ None
 unclosed s st inv = sym inv ∙ ap (λ l. plus (length s) (closing st l)) (drop-length s)

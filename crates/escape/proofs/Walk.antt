@@ -4,7 +4,7 @@ use Rattle.std.proofs.lemmas.Bool.Decides.{nat_tests}
 use Rattle.escape.specs.declared.reader.State.{State}
 use Rattle.escape.specs.declared.reader.State.TheVariants.{Ground, Escaped, Parameters, Intermediates}
 use Rattle.escape.specs.declared.reader.Verdict.{Verdict}
-use Rattle.escape.specs.declared.reader.Verdict.TheVariants.{Plain, Colour, Refused}
+use Rattle.escape.specs.declared.reader.Verdict.TheVariants.{Plain, Colour}
 use Rattle.escape.specs.Reader.{shown, parameter, intermediate, verdict, after, ended}
 use Rattle.escape.specs.Grammar.{Each, Sequence, Clean, none, char, colour, Heads}
 use Rattle.escape.specs.Reading.{goes, accepts, kept, letters, one_more, closes, closing}
@@ -17,8 +17,8 @@ never {X} {st} e g = clash (sym (ap ended g) ∙ e)
 
 -- ---- a walk of the reader through one sequence, or what is left of it
 pub data Walk : State → List ℕ → Type 0 where
-  last : (st : State) (c : ℕ) → verdict st c ≡ Colour → after st c ≡ Ground → Walk st (c ∷ [])
-  step : (st : State) (c : ℕ) (q : List ℕ) → verdict st c ≡ Colour → ended (after st c) ≡ false → Walk (after st c) q → Walk st (c ∷ q)
+  last : (st : State) (c : ℕ) → verdict st c ≡ (Some Colour) → after st c ≡ Ground → Walk st (c ∷ [])
+  step : (st : State) (c : ℕ) (q : List ℕ) → verdict st c ≡ (Some Colour) → ended (after st c) ≡ false → Walk (after st c) q → Walk st (c ∷ q)
 
 -- what is left of a sequence, by the state
 record Inters (q : List ℕ) : Type 0 where
@@ -45,25 +45,25 @@ Left Parameters q = Params q
 Left Intermediates q = Inters q
 
 -- ---- what a step tells of its code
-escapes : (c : ℕ) → verdict Ground c ≡ Colour → (c ≡ 27) × (after Ground c ≡ Escaped)
+escapes : (c : ℕ) → verdict Ground c ≡ (Some Colour) → (c ≡ 27) × (after Ground c ≡ Escaped)
 escapes c v = (grind (arith, nat_tests), grind (arith, nat_tests))
 
-opens : (c : ℕ) → verdict Escaped c ≡ Colour → (c ≡ 91) × (after Escaped c ≡ Parameters)
+opens : (c : ℕ) → verdict Escaped c ≡ (Some Colour) → (c ≡ 91) × (after Escaped c ≡ Parameters)
 opens c v = (grind (arith, nat_tests), grind (arith, nat_tests))
 
-ends_params : (c : ℕ) → verdict Parameters c ≡ Colour → after Parameters c ≡ Ground → c ≡ 109
+ends_params : (c : ℕ) → verdict Parameters c ≡ (Some Colour) → after Parameters c ≡ Ground → c ≡ 109
 ends_params c v a = grind (arith, nat_tests)
 
-ends_inters : (c : ℕ) → verdict Intermediates c ≡ Colour → after Intermediates c ≡ Ground → c ≡ 109
+ends_inters : (c : ℕ) → verdict Intermediates c ≡ (Some Colour) → after Intermediates c ≡ Ground → c ≡ 109
 ends_inters c v a = grind (arith, nat_tests)
 
-in_params : (c : ℕ) → after Parameters c ≡ Parameters → verdict Parameters c ≡ Colour → parameter c ≡ true
+in_params : (c : ℕ) → after Parameters c ≡ Parameters → verdict Parameters c ≡ (Some Colour) → parameter c ≡ true
 in_params c a v = grind (arith, nat_tests)
 
 to_inters : (c : ℕ) → after Parameters c ≡ Intermediates → intermediate c ≡ true
 to_inters c a = grind (arith, nat_tests)
 
-in_inters : (c : ℕ) → after Intermediates c ≡ Intermediates → verdict Intermediates c ≡ Colour → intermediate c ≡ true
+in_inters : (c : ℕ) → after Intermediates c ≡ Intermediates → verdict Intermediates c ≡ (Some Colour) → intermediate c ≡ true
 in_inters c a v = grind (arith, nat_tests)
 
 not_back : (c : ℕ) → (after Parameters c ≡ Escaped → ⊥) × (after Intermediates c ≡ Escaped → ⊥) × (after Intermediates c ≡ Parameters → ⊥)
@@ -80,13 +80,13 @@ more_inters : (c : ℕ) (q : List ℕ) → intermediate c ≡ true → Inters q 
 more_inters c q p h = record { inters = c ∷ h.inters; inters_are = (p, h.inters_are); whole = ap (λ l. c ∷ l) h.whole }
 
 -- one step of a walk that goes on, by the state before it and the one after
-on_params : (c : ℕ) (q : List ℕ) (st : State) → after Parameters c ≡ st → verdict Parameters c ≡ Colour → ended st ≡ false → Left st q → Params (c ∷ q)
+on_params : (c : ℕ) (q : List ℕ) (st : State) → after Parameters c ≡ st → verdict Parameters c ≡ (Some Colour) → ended st ≡ false → Left st q → Params (c ∷ q)
 on_params c q Ground a v e h = clash e
 on_params c q Escaped a v e h = absurd ((not_back c).0 a)
 on_params c q Parameters a v e h = more_params c q (in_params c a v) h
 on_params c q Intermediates a v e h = first_inter c q (to_inters c a) h
 
-on_inters : (c : ℕ) (q : List ℕ) (st : State) → after Intermediates c ≡ st → verdict Intermediates c ≡ Colour → ended st ≡ false → Left st q → Inters (c ∷ q)
+on_inters : (c : ℕ) (q : List ℕ) (st : State) → after Intermediates c ≡ st → verdict Intermediates c ≡ (Some Colour) → ended st ≡ false → Left st q → Inters (c ∷ q)
 on_inters c q Ground a v e h = clash e
 on_inters c q Escaped a v e h = absurd ((not_back c).1 a)
 on_inters c q Parameters a v e h = absurd ((not_back c).2 a)
@@ -104,13 +104,13 @@ sequence c q e h = record {
 opened : (c : ℕ) (q : List ℕ) → c ≡ 91 → Params q → Opened (c ∷ q)
 opened c q e h = record { bytes = q; opened = λ i. e i ∷ q; params = h }
 
-walked_on : (st : State) (c : ℕ) (q : List ℕ) → verdict st c ≡ Colour → ended (after st c) ≡ false → Left (after st c) q → Left st (c ∷ q)
+walked_on : (st : State) (c : ℕ) (q : List ℕ) → verdict st c ≡ (Some Colour) → ended (after st c) ≡ false → Left (after st c) q → Left st (c ∷ q)
 walked_on Ground c q v e h = let k = escapes c v in sequence c q k.0 (subst (λ s. Left s q) k.1 h)
 walked_on Escaped c q v e h = let k = opens c v in opened c q k.0 (subst (λ s. Left s q) k.1 h)
 walked_on Parameters c q v e h = on_params c q (after Parameters c) refl v e h
 walked_on Intermediates c q v e h = on_inters c q (after Intermediates c) refl v e h
 
-closed : (st : State) (c : ℕ) → verdict st c ≡ Colour → after st c ≡ Ground → Left st (c ∷ [])
+closed : (st : State) (c : ℕ) → verdict st c ≡ (Some Colour) → after st c ≡ Ground → Left st (c ∷ [])
 closed Ground c v a = never refl (sym (escapes c v).1 ∙ a)
 closed Escaped c v a = never refl (sym (opens c v).1 ∙ a)
 closed Parameters c v a = record { params = []; inters = []; params_are = tt; inters_are = tt; whole = λ i. ends_params c v a i ∷ [] }
@@ -143,7 +143,7 @@ walk : (q : List ℕ) → Sequence q → Walk Ground q
 walk q h = subst (Walk Ground) (sym h.whole) (step Ground 27 _ refl refl (step Escaped 91 _ refl refl (walk_params h.params h.inters h.params_are h.inters_are)))
 
 -- ---- what a walk makes of the functions
-pub closes_on : (st : State) (r : Option ℕ) → ended st ≡ false → closes Colour st r ≡ one_more r
+pub closes_on : (st : State) (r : Option ℕ) → ended st ≡ false → closes (Some Colour) st r ≡ one_more r
 closes_on Ground r e = clash e
 closes_on Escaped r e = refl
 closes_on Parameters r e = refl
@@ -179,12 +179,12 @@ record Walked (st : State) (s : List ℕ) (n : ℕ) : Type 0 where
   within : n ≤ length s
   walk : Walk st (take n s)
 
-walked_one : (st : State) (c n : ℕ) (cs : List ℕ) → verdict st c ≡ Colour → after st c ≡ Ground → Some 1 ≡ Some n → Walked st (c ∷ cs) n
+walked_one : (st : State) (c n : ℕ) (cs : List ℕ) → verdict st c ≡ (Some Colour) → after st c ≡ Ground → Some 1 ≡ Some n → Walked st (c ∷ cs) n
 walked_one st c n cs v a e =
     let one : 1 ≡ n = cc in
     subst (Walked st (c ∷ cs)) one (record { within = omega arith; walk = last st c v a })
 
-walked_more : (st : State) (c n : ℕ) (cs : List ℕ) → verdict st c ≡ Colour → ended (after st c) ≡ false → ((m : ℕ) → closing (after st c) cs ≡ Some m → Walked (after st c) cs m)
+walked_more : (st : State) (c n : ℕ) (cs : List ℕ) → verdict st c ≡ (Some Colour) → ended (after st c) ≡ false → ((m : ℕ) → closing (after st c) cs ≡ Some m → Walked (after st c) cs m)
     → one_more (closing (after st c) cs) ≡ Some n → Walked st (c ∷ cs) n
 walked_more st c n cs v e on f =
     let b = before (closing (after st c) cs) n f in
@@ -192,14 +192,14 @@ walked_more st c n cs v e on f =
     subst (Walked st (c ∷ cs)) b.is (record { within = omega (arith, w.within); walk = step st c (take b.less cs) v e w.walk })
 
 -- by the verdict and the state after the code
-walked_by : (st : State) (c n : ℕ) (cs : List ℕ) (v : Verdict) (a : State) → verdict st c ≡ v → after st c ≡ a → ((m : ℕ) → closing (after st c) cs ≡ Some m → Walked (after st c) cs m)
+walked_by : (st : State) (c n : ℕ) (cs : List ℕ) (v : Option Verdict) (a : State) → verdict st c ≡ v → after st c ≡ a → ((m : ℕ) → closing (after st c) cs ≡ Some m → Walked (after st c) cs m)
     → closes v a (closing (after st c) cs) ≡ Some n → Walked st (c ∷ cs) n
-walked_by st c n cs Plain a p q on f = none_some f
-walked_by st c n cs Refused a p q on f = none_some f
-walked_by st c n cs Colour Ground p q on f = walked_one st c n cs p q f
-walked_by st c n cs Colour Escaped p q on f = walked_more st c n cs p (ap ended q) on f
-walked_by st c n cs Colour Parameters p q on f = walked_more st c n cs p (ap ended q) on f
-walked_by st c n cs Colour Intermediates p q on f = walked_more st c n cs p (ap ended q) on f
+walked_by st c n cs (Some Plain) a p q on f = none_some f
+walked_by st c n cs None a p q on f = none_some f
+walked_by st c n cs (Some Colour) Ground p q on f = walked_one st c n cs p q f
+walked_by st c n cs (Some Colour) Escaped p q on f = walked_more st c n cs p (ap ended q) on f
+walked_by st c n cs (Some Colour) Parameters p q on f = walked_more st c n cs p (ap ended q) on f
+walked_by st c n cs (Some Colour) Intermediates p q on f = walked_more st c n cs p (ap ended q) on f
 
 walked : (s : List ℕ) (st : State) (n : ℕ) → closing st s ≡ Some n → Walked st s n
 walked [] st n e = none_some e
@@ -231,14 +231,14 @@ Waits Intermediates cs xs = Rest Intermediates cs xs
 false_true : {X : Type 0} → false ≡ true → X
 false_true e = clash (sym e)
 
-only_ground : (st : State) (c : ℕ) → verdict st c ≡ Plain → (st ≡ Ground) × (shown c ≡ true) × (after st c ≡ Ground)
+only_ground : (st : State) (c : ℕ) → verdict st c ≡ (Some Plain) → (st ≡ Ground) × (shown c ≡ true) × (after st c ≡ Ground)
 only_ground Ground c v = (refl, grind (arith, nat_tests), grind (arith, nat_tests))
 only_ground Escaped c v = absurd (grind (arith, nat_tests))
 only_ground Parameters c v = absurd (grind (arith, nat_tests))
 only_ground Intermediates c v = absurd (grind (arith, nat_tests))
 
 -- one part of a sequence more
-extended : (st : State) (c : ℕ) (cs xs : List ℕ) (a : State) → verdict st c ≡ Colour → after st c ≡ a → ended a ≡ false → Rest a cs xs → Rest st (c ∷ cs) xs
+extended : (st : State) (c : ℕ) (cs xs : List ℕ) (a : State) → verdict st c ≡ (Some Colour) → after st c ≡ a → ended a ≡ false → Rest a cs xs → Rest st (c ∷ cs) xs
 extended st c cs xs a v q e r = record {
   part = c ∷ r.part;
   after_it = r.after_it;
@@ -247,7 +247,7 @@ extended st c cs xs a v q e r = record {
   clean = r.clean;
 }
 
-rest_more : (st : State) (c : ℕ) (cs xs : List ℕ) (a : State) → verdict st c ≡ Colour → after st c ≡ a → Waits a cs xs → Rest st (c ∷ cs) xs
+rest_more : (st : State) (c : ℕ) (cs xs : List ℕ) (a : State) → verdict st c ≡ (Some Colour) → after st c ≡ a → Waits a cs xs → Rest st (c ∷ cs) xs
 rest_more st c cs xs Ground v q w = record { part = c ∷ []; after_it = cs; walk = last st c v q; whole = refl; clean = w }
 rest_more st c cs xs Escaped v q w = extended st c cs xs Escaped v q refl w
 rest_more st c cs xs Parameters v q w = extended st c cs xs Parameters v q refl w
@@ -262,14 +262,14 @@ waits_from Escaped cs xs r = r
 waits_from Parameters cs xs r = r
 waits_from Intermediates cs xs r = r
 
-meant_by : (st : State) (c : ℕ) (cs : List ℕ) (v : Verdict) → verdict st c ≡ v → (accepts (after st c) cs ≡ true → Waits (after st c) cs (letters (after st c) cs))
+meant_by : (st : State) (c : ℕ) (cs : List ℕ) (v : Option Verdict) → verdict st c ≡ v → (accepts (after st c) cs ≡ true → Waits (after st c) cs (letters (after st c) cs))
     → goes v (accepts (after st c) cs) ≡ true → Waits st (c ∷ cs) (kept v c (letters (after st c) cs))
-meant_by st c cs Plain p on e =
+meant_by st c cs (Some Plain) p on e =
     let k = only_ground st c p in
     subst (λ s. Waits s (c ∷ cs) (c ∷ letters (after st c) cs)) (sym k.0)
     (char c cs (letters (after st c) cs) k.1 (subst (λ s. Waits s cs (letters (after st c) cs)) k.2 (on e)))
-meant_by st c cs Colour p on e = waits_from st (c ∷ cs) (letters (after st c) cs) (rest_more st c cs (letters (after st c) cs) (after st c) p refl (on e))
-meant_by st c cs Refused p on e = false_true e
+meant_by st c cs (Some Colour) p on e = waits_from st (c ∷ cs) (letters (after st c) cs) (rest_more st c cs (letters (after st c) cs) (after st c) p refl (on e))
+meant_by st c cs None p on e = false_true e
 
 meant : (cs : List ℕ) (st : State) → accepts st cs ≡ true → Waits st cs (letters st cs)
 meant [] Ground e = none
@@ -282,7 +282,7 @@ meant (c ∷ cs) st e = meant_by st c cs (verdict st c) refl (meant cs (after st
 pub clean : (cs : List ℕ) → accepts Ground cs ≡ true → Clean cs (letters Ground cs)
 clean cs e = meant cs Ground e
 
-plain_step : (c : ℕ) → shown c ≡ true → (verdict Ground c ≡ Plain) × (after Ground c ≡ Ground)
+plain_step : (c : ℕ) → shown c ≡ true → (verdict Ground c ≡ (Some Plain)) × (after Ground c ≡ Ground)
 plain_step c h = (grind (arith, nat_tests), grind (arith, nat_tests))
 
 -- and it accepts all text

@@ -1,9 +1,9 @@
 -- The escape reader: what each state makes of the next code. 27 is ESC; 27 91 is the control sequence introducer (CSI).
-use Rattle.std.specs.Prelude.{ℕ, Bool, true, false, cond, ◌&&◌, ◌||◌, ◌==◌, nat_le}
+use Rattle.std.specs.Prelude.{ℕ, Bool, true, false, Some, None, Option, cond, ◌&&◌, ◌||◌, ◌==◌, nat_le}
 use Rattle.escape.specs.declared.reader.State.{State}
 use Rattle.escape.specs.declared.reader.State.TheVariants.{Ground, Escaped, Parameters, Intermediates}
 use Rattle.escape.specs.declared.reader.Verdict.{Verdict}
-use Rattle.escape.specs.declared.reader.Verdict.TheVariants.{Plain, Colour, Refused}
+use Rattle.escape.specs.declared.reader.Verdict.TheVariants.{Plain, Colour}
 
 -- c lies between lo and hi
 abbrev pub within : ℕ → ℕ → ℕ → Bool
@@ -23,11 +23,11 @@ intermediate c = within 32 47 c
 abbrev pub final : ℕ → Bool
 final c = c == 109
 
-abbrev pub verdict : State → ℕ → Verdict
-verdict Ground c = cond (c == 27) Colour (cond (shown c) Plain Refused)
-verdict Escaped c = cond (c == 91) Colour Refused
-verdict Parameters c = cond (parameter c) Colour (cond (intermediate c) Colour (cond (final c) Colour Refused))
-verdict Intermediates c = cond (intermediate c) Colour (cond (final c) Colour Refused)
+abbrev pub verdict : State → ℕ → Option Verdict
+verdict Ground c = cond (c == 27) (Some Colour) (cond (shown c) (Some Plain) None)
+verdict Escaped c = cond (c == 91) (Some Colour) None
+verdict Parameters c = cond (parameter c) (Some Colour) (cond (intermediate c) (Some Colour) (cond (final c) (Some Colour) None))
+verdict Intermediates c = cond (intermediate c) (Some Colour) (cond (final c) (Some Colour) None)
 
 abbrev pub after : State → ℕ → State
 after Ground c = cond (c == 27) Escaped Ground

@@ -46,13 +46,9 @@ impl<'a> AnsiCodeIterator<'a> {
         ensures all { (ps : List Part) → Given self.old.line.now ps self.old.at → MatchOption result (Divided self.old.line.now ps) (λ p. Given self.old.line.now (ps ++ view p ∷ []) self.new.at) }
     {
         let from = self.at;
-        match cut(self.line, from) {
-            Some(p) => {
-                self.at = from + p.as_bytes().len();
-                Some(p)
-            }
-            None => None,
-        }
+        let piece = cut(self.line, from)?;
+        self.at = from + piece.as_bytes().len();
+        Some(piece)
     }
 }
 

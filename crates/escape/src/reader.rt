@@ -3,7 +3,9 @@ ghost use Rattle.std.specs.Prelude.{◌≡◌};
 ghost use Rattle.escape.specs.Reader.{after, verdict, ended};
 ghost use Rattle.escape.specs.declared.reader.State.TheVariants.{Ground};
 
-#[derive(Clone, Copy)]
+use std::marker::Model;
+
+#[derive(Clone, Copy, Debug, PartialEq, Eq)]
 pub enum State {
     Ground,
     Escaped,
@@ -11,71 +13,77 @@ pub enum State {
     Intermediates,
 }
 
-// What a byte is: a plain character, a part of a colour sequence, or neither.
-#[derive(Clone, Copy)]
+// What a byte that may stand in a text is: a plain character, or a part of a colour sequence.
+#[derive(Clone, Copy, Debug, PartialEq, Eq)]
 pub enum Verdict {
     Plain,
     Colour,
-    Refused,
 }
 
-#[derive(Clone, Copy)]
+#[derive(Clone, Copy, Debug, PartialEq, Eq)]
 pub struct EscapeReader {
     state: State,
 }
 
+impl Model for EscapeReader {
+    ghost use Rattle.escape.specs.declared.reader.State.{State};
+
+    ghost Value = { State };
+
+    ghost view = { λ r. r.state };
+
+    ghost inverse = { λ s. record { state = s } };
+}
+
 impl EscapeReader {
     pub fn new() -> EscapeReader
-        ensures { result.state ≡ Ground }
+        ensures { result ≡ Ground }
     {
         EscapeReader {
             state: State::Ground,
         }
     }
 
-    // Takes one byte; a refused one leaves the state as it was.
-    pub fn step(&mut self, b: u8) -> Verdict
-        ensures state { self.new.state ≡ after self.old.state b }
-        ensures value { result ≡ verdict self.old.state b }
+    // Takes one byte, or None: a byte that may not stand here leaves the state as it was.
+    pub fn step(&mut self, b: u8) -> Option<Verdict>
+        ensures state { self.new ≡ after self.old b }
+        ensures value { result ≡ verdict self.old b }
     {
         match (self.state, b) {
             (State::Ground, 27) => {
                 self.state = State::Escaped;
-                Verdict::Colour
+                Some(Verdict::Colour)
             }
-            (State::Ground, 32..=126 | 160..=255) => Verdict::Plain,
+            (State::Ground, 32..=126 | 160..=255) => Some(Verdict::Plain),
             (State::Escaped, 91) => {
                 self.state = State::Parameters;
-                Verdict::Colour
+                Some(Verdict::Colour)
             }
-            (State::Parameters, 48..=63) => Verdict::Colour,
+            (State::Parameters, 48..=63) => Some(Verdict::Colour),
             (State::Parameters | State::Intermediates, 32..=47) => {
                 self.state = State::Intermediates;
-                Verdict::Colour
+                Some(Verdict::Colour)
             }
             (State::Parameters | State::Intermediates, 109) => {
                 self.state = State::Ground;
-                Verdict::Colour
+                Some(Verdict::Colour)
             }
-            _ => Verdict::Refused,
+            _ => None,
         }
     }
 
     // Takes one character: what lies above a byte is to the reader as the byte 255.
-    pub fn read(&mut self, c: u32) -> Verdict
-        ensures state { self.new.state ≡ after self.old.state c }
-        ensures value { result ≡ verdict self.old.state c }
+    pub fn read(&mut self, c: u32) -> Option<Verdict>
+        ensures state { self.new ≡ after self.old c }
+        ensures value { result ≡ verdict self.old c }
     {
-        self.step(if c < 255 { c as u8 } else { 255 })
+        self.step(u8::try_from(c).unwrap_or(255))
     }
 
     // Whether the reader stands between sequences.
     pub fn is_ground(&self) -> bool
-        ensures { result ≡ ended self.now.state }
+        ensures { result ≡ ended self.now }
     {
-        match self.state {
-            State::Ground => true,
-            State::Escaped | State::Parameters | State::Intermediates => false,
-        }
+        self.state == State::Ground
     }
 }

@@ -12,13 +12,10 @@ pub fn sequence_len(s: &[u8]) -> Option<usize>
 {
     let mut reader = EscapeReader::new();
     for (i, b) in s.iter().enumerate() {
-        match reader.step(*b) {
-            Verdict::Colour => {
-                if reader.is_ground() {
-                    return Some(i + 1);
-                }
-            }
-            Verdict::Plain | Verdict::Refused => return None,
+        match reader.step(*b)? {
+            Verdict::Colour if reader.is_ground() => return Some(i + 1),
+            Verdict::Colour => {}
+            Verdict::Plain => return None,
         }
     }
     None
@@ -30,10 +27,7 @@ fn opens(s: &[u8], k: usize) -> bool
     ensures yes { T result → Opens s.now k }
     ensures no { Opens s.now k → T result }
 {
-    match sequence_len(&s[k..]) {
-        Some(_) => true,
-        None => false,
-    }
+    sequence_len(&s[k..]).is_some()
 }
 
 // How far s is plain: up to the first place after its head where a colour sequence begins, or to its end.
@@ -43,9 +37,5 @@ pub(crate) fn plain_len(s: &[u8]) -> usize
     ensures plain { (k : ℕ) → 0 < k → k < result → Opens s.now k → ⊥ }
     ensures next { result < length s.now → Opens s.now result }
 {
-    let mut n = 1;
-    while n < s.len() && !opens(s, n) {
-        n += 1;
-    }
-    n
+    (1..s.len()).find(|n| opens(s, *n)).unwrap_or(s.len())
 }

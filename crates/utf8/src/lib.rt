@@ -1,10 +1,12 @@
 // UTF-8 by RFC 3629, one character at a time.
 #![tactic(auto)]
 
-ghost use Rattle.std.specs.Prelude.{◌≡◌, ℕ, ◌+◌, ◌<◌, ◌≤◌, ◌&&◌, ◌||◌, T, List, [], ◌∷◌, length, IfSome, MatchOption, nat_le, nat_lt};
+ghost use Rattle.std.specs.Prelude.{◌≡◌, ℕ, ◌+◌, ◌-◌, ◌<◌, ◌≤◌, ◌&&◌, ◌||◌, T, List, [], ◌∷◌, length, IfSome, MatchOption, nat_le, nat_lt};
+ghost use Rattle.std.specs.Option.{SomeIff};
 ghost use Rattle.utf8.specs.Rfc.{Char, NoChar, Tail, AsStd, octets};
 
 // The character at the head of `s` with what follows it, or None where none stands there.
+#[tactic(auto, using(crate::proofs::Standard::as_std))]
 pub fn decode(s: &[u8]) -> Option<(u32, &[u8])>
     ensures read { MatchOption result (NoChar s.now) (λ p. Char s.now p.0 p.1.now) }
     ensures all { (c : ℕ) (rest : List ℕ) → Char s.now c rest → MatchOption result ⊥ (λ p. (p.0 ≡ c) × (p.1.now ≡ rest)) }
@@ -13,28 +15,22 @@ pub fn decode(s: &[u8]) -> Option<(u32, &[u8])>
 {
     match s {
         [a, rest @ ..] if *a < 0x80 => Some((u32::from(*a), rest)),
-        [a, b, rest @ ..] if *a < 0xE0 => {
-            let code = two(*a, *b)?;
-            Some((code, rest))
-        }
-        [a, b, c, rest @ ..] if *a < 0xF0 => {
-            let code = three(*a, *b, *c)?;
-            Some((code, rest))
-        }
-        [a, b, c, d, rest @ ..] => {
-            let code = four(*a, *b, *c, *d)?;
-            Some((code, rest))
-        }
+        [a, b, rest @ ..] if *a < 0xE0 => Some((two(*a, *b)?, rest)),
+        [a, b, c, rest @ ..] if *a < 0xF0 => Some((three(*a, *b, *c)?, rest)),
+        [a, b, c, d, rest @ ..] => Some((four(*a, *b, *c, *d)?, rest)),
         _ => None,
     }
 }
 
-// Whether b follows a lead octet.
-fn is_tail(b: u8) -> bool
-    ensures yes { T result → Tail b }
-    ensures no { Tail b → T result }
+// The last six bits of an octet that follows a lead octet.
+fn tail(b: u8) -> Option<u32>
+    ensures { SomeIff result (Tail b) (b - 0x80) }
 {
-    0x80 <= b && b <= 0xBF
+    if (0x80..=0xBF).contains(&b) {
+        Some(u32::from(b - 0x80))
+    } else {
+        None
+    }
 }
 
 // Whether two octets are the shortest form of code.
@@ -62,34 +58,23 @@ fn two(a: u8, b: u8) -> Option<u32>
     requires { (128 ≤ a) × (a < 224) }
     ensures { MatchOption result (NoChar (a ∷ b ∷ [])) (λ c. Char (a ∷ b ∷ []) c []) }
 {
-    if a < 0xC0 || !is_tail(b) {
-        return None;
-    }
-    let code = u32::from(a - 0xC0) * 64 + u32::from(b - 0x80);
-    if takes_two(code) { Some(code) } else { None }
+    let high = u32::from(a.checked_sub(0xC0)?);
+    let code = high * 64 + tail(b)?;
+    takes_two(code).then_some(code)
 }
 
 fn three(a: u8, b: u8, c: u8) -> Option<u32>
     requires { (224 ≤ a) × (a < 240) }
     ensures { MatchOption result (NoChar (a ∷ b ∷ c ∷ [])) (λ x. Char (a ∷ b ∷ c ∷ []) x []) }
 {
-    if !is_tail(b) || !is_tail(c) {
-        return None;
-    }
-    let code = u32::from(a - 0xE0) * 4096 + u32::from(b - 0x80) * 64 + u32::from(c - 0x80);
-    if takes_three(code) { Some(code) } else { None }
+    let code = u32::from(a - 0xE0) * 4096 + tail(b)? * 64 + tail(c)?;
+    takes_three(code).then_some(code)
 }
 
 fn four(a: u8, b: u8, c: u8, d: u8) -> Option<u32>
     requires { 240 ≤ a }
     ensures { MatchOption result (NoChar (a ∷ b ∷ c ∷ d ∷ [])) (λ x. Char (a ∷ b ∷ c ∷ d ∷ []) x []) }
 {
-    if !is_tail(b) || !is_tail(c) || !is_tail(d) {
-        return None;
-    }
-    let code = u32::from(a - 0xF0) * 262144
-        + u32::from(b - 0x80) * 4096
-        + u32::from(c - 0x80) * 64
-        + u32::from(d - 0x80);
-    if takes_four(code) { Some(code) } else { None }
+    let code = u32::from(a - 0xF0) * 262144 + tail(b)? * 4096 + tail(c)? * 64 + tail(d)?;
+    takes_four(code).then_some(code)
 }
