@@ -1,4 +1,4 @@
--- The pieces of a line, one after the other. Assumes nothing.
+-- The pieces of a line, one after the other.
 use Rattle.std.proofs.Common.{◌≡◌, ℕ, ◌+◌, ◌-◌, ◌<◌, ◌≤◌, true, eqb, ◌⊎◌, List, [], ◌∷◌, ◌++◌, length, take, drop, sym, refl, ap, ◌∙◌, subst, inl, inr, append_assoc, append-nil, eq-zero-or-pos, arith, length-drop, length-take, take_all, drop-drop, take-add, true-eqb}
 use Rattle.escape.specs.Grammar.{Sequence, Heads}
 use Rattle.escape.specs.Pieces.{Part, plain, colour, bytes, Opens, Cut, Given, start, next, joined, Follows, Sound, AllSound, Apart, Divided}
@@ -7,19 +7,13 @@ use Rattle.escape.specs.Pieces.{Part, plain, colour, bytes, Opens, Cut, Given, s
 pub ended : (line : List ℕ) (i : ℕ) → i ≤ length line → true ≡ eqb (length (take (length line - i) (drop i line))) 0 → i ≡ length line
 ended line i h e = omega (arith, true-eqb (length (take (length line - i) (drop i line))) 0 e, length-take (length line - i) (drop i line), length-drop i line)
 
-pub lies : (i p : ℕ) → 0 + (i + p) ≡ p + i
-lies i p = omega arith
-
 sequence_some : (q : List ℕ) → Sequence q → 0 < length q
 sequence_some q h = rw h.whole (omega arith)
 
 further : (line : List ℕ) (i k : ℕ) → drop k (drop i line) ≡ drop (i + k) line
 further line i k = drop-drop k i line
 
-module _ (line : List ℕ) (i n : ℕ) (s rest : List ℕ) (here : i ≤ length line) (at : rest ≡ drop i line) (cut : s ≡ take (n - 0) rest) where
-  part : s ≡ take n rest
-  part = let e : n - 0 ≡ n = omega arith in cut ∙ ap (λ m. take m rest) e
-
+module _ (line : List ℕ) (i n : ℕ) (s rest : List ℕ) (here : i ≤ length line) (at : rest ≡ drop i line) (part : s ≡ take n rest) where
   long : length rest + i ≡ length line
   long = omega (arith, ap length at, length-drop i line)
 

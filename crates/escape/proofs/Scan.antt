@@ -1,6 +1,8 @@
--- The loop that looks for the end of a sequence. Assumes nothing.
+-- The loop that looks for the end of a sequence.
 use Rattle.std.proofs.Common.{◌≡◌, ℕ, suc, ◌+◌, ◌<◌, true, false, ◌⊎◌, List, ◌∷◌, length, get_or, drop, Some, None, Option, sym, refl, ap, ◌∙◌, inl, inr, add-one, arith, drop-cons, MatchOption}
 use lib.Seq.{drop-length}
+use Rattle.std.proofs.lemmas.Bool.{false≢true}
+use Rattle.std.proofs.lemmas.Option.{none-some}
 use Rattle.escape.specs.declared.reader.State.{State}
 use Rattle.escape.specs.declared.reader.State.TheVariants.{Ground, Escaped, Parameters, Intermediates}
 use Rattle.escape.specs.declared.reader.Verdict.{Verdict}
@@ -31,18 +33,18 @@ stepped s i st st' v h inv p q =
 
 closed_state : (st : State) (r : Option ℕ) → ended st ≡ true → closes (Some Colour) st r ≡ Some 1
 closed_state Ground r e = refl
-closed_state Escaped r e = absurd (let z : ◌≡◌ {A = ℕ} 0 1 = cc in omega arith)
-closed_state Parameters r e = absurd (let z : ◌≡◌ {A = ℕ} 0 1 = cc in omega arith)
-closed_state Intermediates r e = absurd (let z : ◌≡◌ {A = ℕ} 0 1 = cc in omega arith)
+closed_state Escaped r e = absurd (false≢true e)
+closed_state Parameters r e = absurd (false≢true e)
+closed_state Intermediates r e = absurd (false≢true e)
 
 module _ (s : List ℕ) (i : ℕ) (st st' : State) (h : i < length s) (inv : Sofar s i st) (q : st' ≡ after st (get_or s i 0)) where
-  pub more : (Some Colour) ≡ verdict st (get_or s i 0) → false ≡ ended st' → Sofar s (i + 1) st'
+  pub more : Some Colour ≡ verdict st (get_or s i 0) → false ≡ ended st' → Sofar s (i + 1) st'
   more p e = sym (plus_more i _) ∙ ap (plus i) (sym (closes_on st' _ (sym e))) ∙ stepped s i st st' (Some Colour) h inv p q
 
-  pub found : (Some Colour) ≡ verdict st (get_or s i 0) → true ≡ ended st' → closing Ground s ≡ Some (i + 1)
+  pub found : Some Colour ≡ verdict st (get_or s i 0) → true ≡ ended st' → closing Ground s ≡ Some (i + 1)
   found p e = sym (stepped s i st st' (Some Colour) h inv p q) ∙ ap (plus i) (closed_state st' _ (sym e))
 
-  pub refused : (v : Option Verdict) → (v ≡ (Some Plain)) ⊎ (v ≡ None) → v ≡ verdict st (get_or s i 0) → closing Ground s ≡ None
+  pub refused : (v : Option Verdict) → (v ≡ Some Plain) ⊎ (v ≡ None) → v ≡ verdict st (get_or s i 0) → closing Ground s ≡ None
   refused v (inl e) p = sym (stepped s i st st' (Some Plain) h inv (sym e ∙ p) q)
   refused v (inr e) p = sym (stepped s i st st' None h inv (sym e ∙ p) q)
 
@@ -58,4 +60,4 @@ pub some : (s : List ℕ) (n : ℕ) → closing Ground s ≡ Some n → Answer s
 some s n e = record { found = heads s n e; all = λ m h. sym e ∙ closes_head s m h }
 
 pub nothing : (s : List ℕ) → closing Ground s ≡ None → Answer s None
-nothing s e = record { found = λ n h. absurd (let k = sym e ∙ closes_head s n h in let z : ◌≡◌ {A = ℕ} 0 1 = cc in omega arith); all = λ m h. sym e ∙ closes_head s m h }
+nothing s e = record { found = λ n h. none-some n (sym e ∙ closes_head s n h); all = λ m h. sym e ∙ closes_head s m h }

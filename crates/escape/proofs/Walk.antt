@@ -1,6 +1,8 @@
--- The reader takes exactly the sequences of the grammar, and exactly its text. Assumes nothing.
+-- The reader takes exactly the sequences of the grammar, and exactly its text.
 use Rattle.std.proofs.Common.{◌≡◌, ℕ, suc, ◌≤◌, true, false, List, [], ◌∷◌, ◌++◌, length, take, drop, Some, None, Option, sym, refl, ap, ◌∙◌, subst, arith, take-append-drop, length-take}
+use Rattle.std.proofs.lemmas.Bool.{false≢true, true≢false}
 use Rattle.std.proofs.lemmas.Bool.Decides.{nat_tests}
+use Rattle.std.proofs.lemmas.Option.{none-some}
 use Rattle.escape.specs.declared.reader.State.{State}
 use Rattle.escape.specs.declared.reader.State.TheVariants.{Ground, Escaped, Parameters, Intermediates}
 use Rattle.escape.specs.declared.reader.Verdict.{Verdict}
@@ -9,16 +11,13 @@ use Rattle.escape.specs.Reader.{shown, parameter, intermediate, verdict, after, 
 use Rattle.escape.specs.Grammar.{Each, Sequence, Clean, none, char, colour, Heads}
 use Rattle.escape.specs.Reading.{goes, accepts, kept, letters, one_more, closes, closing}
 
-clash : {X : Type 0} → true ≡ false → X
-clash e = absurd (let z : ◌≡◌ {A = ℕ} 0 1 = cc in omega arith)
-
 never : {X : Type 0} {st : State} → ended st ≡ false → st ≡ Ground → X
-never {X} {st} e g = clash (sym (ap ended g) ∙ e)
+never {X} {st} e g = absurd (true≢false (sym (ap ended g) ∙ e))
 
 -- ---- a walk of the reader through one sequence, or what is left of it
 pub data Walk : State → List ℕ → Type 0 where
-  last : (st : State) (c : ℕ) → verdict st c ≡ (Some Colour) → after st c ≡ Ground → Walk st (c ∷ [])
-  step : (st : State) (c : ℕ) (q : List ℕ) → verdict st c ≡ (Some Colour) → ended (after st c) ≡ false → Walk (after st c) q → Walk st (c ∷ q)
+  last : (st : State) (c : ℕ) → verdict st c ≡ Some Colour → after st c ≡ Ground → Walk st (c ∷ [])
+  step : (st : State) (c : ℕ) (q : List ℕ) → verdict st c ≡ Some Colour → ended (after st c) ≡ false → Walk (after st c) q → Walk st (c ∷ q)
 
 -- what is left of a sequence, by the state
 record Inters (q : List ℕ) : Type 0 where
@@ -45,25 +44,25 @@ Left Parameters q = Params q
 Left Intermediates q = Inters q
 
 -- ---- what a step tells of its code
-escapes : (c : ℕ) → verdict Ground c ≡ (Some Colour) → (c ≡ 27) × (after Ground c ≡ Escaped)
+escapes : (c : ℕ) → verdict Ground c ≡ Some Colour → (c ≡ 27) × (after Ground c ≡ Escaped)
 escapes c v = (grind (arith, nat_tests), grind (arith, nat_tests))
 
-opens : (c : ℕ) → verdict Escaped c ≡ (Some Colour) → (c ≡ 91) × (after Escaped c ≡ Parameters)
+opens : (c : ℕ) → verdict Escaped c ≡ Some Colour → (c ≡ 91) × (after Escaped c ≡ Parameters)
 opens c v = (grind (arith, nat_tests), grind (arith, nat_tests))
 
-ends_params : (c : ℕ) → verdict Parameters c ≡ (Some Colour) → after Parameters c ≡ Ground → c ≡ 109
+ends_params : (c : ℕ) → verdict Parameters c ≡ Some Colour → after Parameters c ≡ Ground → c ≡ 109
 ends_params c v a = grind (arith, nat_tests)
 
-ends_inters : (c : ℕ) → verdict Intermediates c ≡ (Some Colour) → after Intermediates c ≡ Ground → c ≡ 109
+ends_inters : (c : ℕ) → verdict Intermediates c ≡ Some Colour → after Intermediates c ≡ Ground → c ≡ 109
 ends_inters c v a = grind (arith, nat_tests)
 
-in_params : (c : ℕ) → after Parameters c ≡ Parameters → verdict Parameters c ≡ (Some Colour) → parameter c ≡ true
+in_params : (c : ℕ) → after Parameters c ≡ Parameters → verdict Parameters c ≡ Some Colour → parameter c ≡ true
 in_params c a v = grind (arith, nat_tests)
 
 to_inters : (c : ℕ) → after Parameters c ≡ Intermediates → intermediate c ≡ true
 to_inters c a = grind (arith, nat_tests)
 
-in_inters : (c : ℕ) → after Intermediates c ≡ Intermediates → verdict Intermediates c ≡ (Some Colour) → intermediate c ≡ true
+in_inters : (c : ℕ) → after Intermediates c ≡ Intermediates → verdict Intermediates c ≡ Some Colour → intermediate c ≡ true
 in_inters c a v = grind (arith, nat_tests)
 
 not_back : (c : ℕ) → (after Parameters c ≡ Escaped → ⊥) × (after Intermediates c ≡ Escaped → ⊥) × (after Intermediates c ≡ Parameters → ⊥)
@@ -80,14 +79,14 @@ more_inters : (c : ℕ) (q : List ℕ) → intermediate c ≡ true → Inters q 
 more_inters c q p h = record { inters = c ∷ h.inters; inters_are = (p, h.inters_are); whole = ap (λ l. c ∷ l) h.whole }
 
 -- one step of a walk that goes on, by the state before it and the one after
-on_params : (c : ℕ) (q : List ℕ) (st : State) → after Parameters c ≡ st → verdict Parameters c ≡ (Some Colour) → ended st ≡ false → Left st q → Params (c ∷ q)
-on_params c q Ground a v e h = clash e
+on_params : (c : ℕ) (q : List ℕ) (st : State) → after Parameters c ≡ st → verdict Parameters c ≡ Some Colour → ended st ≡ false → Left st q → Params (c ∷ q)
+on_params c q Ground a v e h = absurd (true≢false e)
 on_params c q Escaped a v e h = absurd ((not_back c).0 a)
 on_params c q Parameters a v e h = more_params c q (in_params c a v) h
 on_params c q Intermediates a v e h = first_inter c q (to_inters c a) h
 
-on_inters : (c : ℕ) (q : List ℕ) (st : State) → after Intermediates c ≡ st → verdict Intermediates c ≡ (Some Colour) → ended st ≡ false → Left st q → Inters (c ∷ q)
-on_inters c q Ground a v e h = clash e
+on_inters : (c : ℕ) (q : List ℕ) (st : State) → after Intermediates c ≡ st → verdict Intermediates c ≡ Some Colour → ended st ≡ false → Left st q → Inters (c ∷ q)
+on_inters c q Ground a v e h = absurd (true≢false e)
 on_inters c q Escaped a v e h = absurd ((not_back c).1 a)
 on_inters c q Parameters a v e h = absurd ((not_back c).2 a)
 on_inters c q Intermediates a v e h = more_inters c q (in_inters c a v) h
@@ -104,13 +103,13 @@ sequence c q e h = record {
 opened : (c : ℕ) (q : List ℕ) → c ≡ 91 → Params q → Opened (c ∷ q)
 opened c q e h = record { bytes = q; opened = λ i. e i ∷ q; params = h }
 
-walked_on : (st : State) (c : ℕ) (q : List ℕ) → verdict st c ≡ (Some Colour) → ended (after st c) ≡ false → Left (after st c) q → Left st (c ∷ q)
+walked_on : (st : State) (c : ℕ) (q : List ℕ) → verdict st c ≡ Some Colour → ended (after st c) ≡ false → Left (after st c) q → Left st (c ∷ q)
 walked_on Ground c q v e h = let k = escapes c v in sequence c q k.0 (subst (λ s. Left s q) k.1 h)
 walked_on Escaped c q v e h = let k = opens c v in opened c q k.0 (subst (λ s. Left s q) k.1 h)
 walked_on Parameters c q v e h = on_params c q (after Parameters c) refl v e h
 walked_on Intermediates c q v e h = on_inters c q (after Intermediates c) refl v e h
 
-closed : (st : State) (c : ℕ) → verdict st c ≡ (Some Colour) → after st c ≡ Ground → Left st (c ∷ [])
+closed : (st : State) (c : ℕ) → verdict st c ≡ Some Colour → after st c ≡ Ground → Left st (c ∷ [])
 closed Ground c v a = never refl (sym (escapes c v).1 ∙ a)
 closed Escaped c v a = never refl (sym (opens c v).1 ∙ a)
 closed Parameters c v a = record { params = []; inters = []; params_are = tt; inters_are = tt; whole = λ i. ends_params c v a i ∷ [] }
@@ -144,7 +143,7 @@ walk q h = subst (Walk Ground) (sym h.whole) (step Ground 27 _ refl refl (step E
 
 -- ---- what a walk makes of the functions
 pub closes_on : (st : State) (r : Option ℕ) → ended st ≡ false → closes (Some Colour) st r ≡ one_more r
-closes_on Ground r e = clash e
+closes_on Ground r e = absurd (true≢false e)
 closes_on Escaped r e = refl
 closes_on Parameters r e = refl
 closes_on Intermediates r e = refl
@@ -163,28 +162,25 @@ letters_walk st q rest (last _ c v a) = λ i. kept (v i) c (letters (a i) rest)
 letters_walk st q rest (step _ c p v e w) = (λ i. kept (v i) c (letters (after st c) (p ++ rest))) ∙ letters_walk (after st c) p rest w
 
 -- ---- the length of the sequence at the head of a list
-none_some : {X : Type 0} {n : ℕ} → None ≡ Some n → X
-none_some e = absurd (let z : ◌≡◌ {A = ℕ} 0 1 = cc in omega arith)
-
 record Before (r : Option ℕ) (n : ℕ) : Type 0 where
   less : ℕ
   was : r ≡ Some less
   is : suc less ≡ n
 
 before : (r : Option ℕ) (n : ℕ) → one_more r ≡ Some n → Before r n
-before None n e = none_some e
+before None n e = absurd (none-some _ e)
 before (Some m) n e = record { less = m; was = refl; is = cc }
 
 record Walked (st : State) (s : List ℕ) (n : ℕ) : Type 0 where
   within : n ≤ length s
   walk : Walk st (take n s)
 
-walked_one : (st : State) (c n : ℕ) (cs : List ℕ) → verdict st c ≡ (Some Colour) → after st c ≡ Ground → Some 1 ≡ Some n → Walked st (c ∷ cs) n
+walked_one : (st : State) (c n : ℕ) (cs : List ℕ) → verdict st c ≡ Some Colour → after st c ≡ Ground → Some 1 ≡ Some n → Walked st (c ∷ cs) n
 walked_one st c n cs v a e =
     let one : 1 ≡ n = cc in
     subst (Walked st (c ∷ cs)) one (record { within = omega arith; walk = last st c v a })
 
-walked_more : (st : State) (c n : ℕ) (cs : List ℕ) → verdict st c ≡ (Some Colour) → ended (after st c) ≡ false → ((m : ℕ) → closing (after st c) cs ≡ Some m → Walked (after st c) cs m)
+walked_more : (st : State) (c n : ℕ) (cs : List ℕ) → verdict st c ≡ Some Colour → ended (after st c) ≡ false → ((m : ℕ) → closing (after st c) cs ≡ Some m → Walked (after st c) cs m)
     → one_more (closing (after st c) cs) ≡ Some n → Walked st (c ∷ cs) n
 walked_more st c n cs v e on f =
     let b = before (closing (after st c) cs) n f in
@@ -194,15 +190,15 @@ walked_more st c n cs v e on f =
 -- by the verdict and the state after the code
 walked_by : (st : State) (c n : ℕ) (cs : List ℕ) (v : Option Verdict) (a : State) → verdict st c ≡ v → after st c ≡ a → ((m : ℕ) → closing (after st c) cs ≡ Some m → Walked (after st c) cs m)
     → closes v a (closing (after st c) cs) ≡ Some n → Walked st (c ∷ cs) n
-walked_by st c n cs (Some Plain) a p q on f = none_some f
-walked_by st c n cs None a p q on f = none_some f
+walked_by st c n cs (Some Plain) a p q on f = absurd (none-some _ f)
+walked_by st c n cs None a p q on f = absurd (none-some _ f)
 walked_by st c n cs (Some Colour) Ground p q on f = walked_one st c n cs p q f
 walked_by st c n cs (Some Colour) Escaped p q on f = walked_more st c n cs p (ap ended q) on f
 walked_by st c n cs (Some Colour) Parameters p q on f = walked_more st c n cs p (ap ended q) on f
 walked_by st c n cs (Some Colour) Intermediates p q on f = walked_more st c n cs p (ap ended q) on f
 
 walked : (s : List ℕ) (st : State) (n : ℕ) → closing st s ≡ Some n → Walked st s n
-walked [] st n e = none_some e
+walked [] st n e = absurd (none-some _ e)
 walked (c ∷ cs) st n e = walked_by st c n cs (verdict st c) (after st c) refl refl (walked cs (after st c)) e
 
 -- the reader closes a sequence after n bytes exactly where the grammar has one
@@ -228,17 +224,14 @@ Waits Escaped cs xs = Rest Escaped cs xs
 Waits Parameters cs xs = Rest Parameters cs xs
 Waits Intermediates cs xs = Rest Intermediates cs xs
 
-false_true : {X : Type 0} → false ≡ true → X
-false_true e = clash (sym e)
-
-only_ground : (st : State) (c : ℕ) → verdict st c ≡ (Some Plain) → (st ≡ Ground) × (shown c ≡ true) × (after st c ≡ Ground)
+only_ground : (st : State) (c : ℕ) → verdict st c ≡ Some Plain → (st ≡ Ground) × (shown c ≡ true) × (after st c ≡ Ground)
 only_ground Ground c v = (refl, grind (arith, nat_tests), grind (arith, nat_tests))
 only_ground Escaped c v = absurd (grind (arith, nat_tests))
 only_ground Parameters c v = absurd (grind (arith, nat_tests))
 only_ground Intermediates c v = absurd (grind (arith, nat_tests))
 
 -- one part of a sequence more
-extended : (st : State) (c : ℕ) (cs xs : List ℕ) (a : State) → verdict st c ≡ (Some Colour) → after st c ≡ a → ended a ≡ false → Rest a cs xs → Rest st (c ∷ cs) xs
+extended : (st : State) (c : ℕ) (cs xs : List ℕ) (a : State) → verdict st c ≡ Some Colour → after st c ≡ a → ended a ≡ false → Rest a cs xs → Rest st (c ∷ cs) xs
 extended st c cs xs a v q e r = record {
   part = c ∷ r.part;
   after_it = r.after_it;
@@ -247,7 +240,7 @@ extended st c cs xs a v q e r = record {
   clean = r.clean;
 }
 
-rest_more : (st : State) (c : ℕ) (cs xs : List ℕ) (a : State) → verdict st c ≡ (Some Colour) → after st c ≡ a → Waits a cs xs → Rest st (c ∷ cs) xs
+rest_more : (st : State) (c : ℕ) (cs xs : List ℕ) (a : State) → verdict st c ≡ Some Colour → after st c ≡ a → Waits a cs xs → Rest st (c ∷ cs) xs
 rest_more st c cs xs Ground v q w = record { part = c ∷ []; after_it = cs; walk = last st c v q; whole = refl; clean = w }
 rest_more st c cs xs Escaped v q w = extended st c cs xs Escaped v q refl w
 rest_more st c cs xs Parameters v q w = extended st c cs xs Parameters v q refl w
@@ -269,20 +262,20 @@ meant_by st c cs (Some Plain) p on e =
     subst (λ s. Waits s (c ∷ cs) (c ∷ letters (after st c) cs)) (sym k.0)
     (char c cs (letters (after st c) cs) k.1 (subst (λ s. Waits s cs (letters (after st c) cs)) k.2 (on e)))
 meant_by st c cs (Some Colour) p on e = waits_from st (c ∷ cs) (letters (after st c) cs) (rest_more st c cs (letters (after st c) cs) (after st c) p refl (on e))
-meant_by st c cs None p on e = false_true e
+meant_by st c cs None p on e = absurd (false≢true e)
 
 meant : (cs : List ℕ) (st : State) → accepts st cs ≡ true → Waits st cs (letters st cs)
 meant [] Ground e = none
-meant [] Escaped e = false_true e
-meant [] Parameters e = false_true e
-meant [] Intermediates e = false_true e
+meant [] Escaped e = absurd (false≢true e)
+meant [] Parameters e = absurd (false≢true e)
+meant [] Intermediates e = absurd (false≢true e)
 meant (c ∷ cs) st e = meant_by st c cs (verdict st c) refl (meant cs (after st c)) e
 
 -- what the reader accepts is text, with the characters that it lets through
 pub clean : (cs : List ℕ) → accepts Ground cs ≡ true → Clean cs (letters Ground cs)
 clean cs e = meant cs Ground e
 
-plain_step : (c : ℕ) → shown c ≡ true → (verdict Ground c ≡ (Some Plain)) × (after Ground c ≡ Ground)
+plain_step : (c : ℕ) → shown c ≡ true → (verdict Ground c ≡ Some Plain) × (after Ground c ≡ Ground)
 plain_step c h = (grind (arith, nat_tests), grind (arith, nat_tests))
 
 -- and it accepts all text

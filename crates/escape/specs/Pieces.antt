@@ -1,5 +1,5 @@
 -- The pieces of a line: plain runs and colour sequences.
-use Rattle.std.specs.Prelude.{◌≡◌, ℕ, ◌+◌, ◌-◌, ◌<◌, ◌≤◌, List, [], ◌∷◌, ◌++◌, length, take, drop}
+use Rattle.std.specs.Prelude.{◌≡◌, ℕ, ◌+◌, ◌-◌, ◌<◌, ◌≤◌, List, [], ◌∷◌, ◌++◌, length, take, drop, Option, IfSome, MatchOption}
 use Rattle.std.specs.Borrow.{Bor}
 use Rattle.escape.specs.Grammar.{Sequence, Heads}
 use Rattle.escape.specs.declared.piece.Piece.{Piece}
@@ -75,3 +75,11 @@ pub record Divided (line : List ℕ) (ps : List Part) : Type 0 where
   pub whole : joined ps ≡ line
   pub sound : AllSound ps
   pub apart : Apart ps
+
+-- a question for the next piece: r is the piece of the line at the place i, or None at its end, and the next is asked for at the place j
+pub record NextPiece (line : Bor (List ℕ)) (i : ℕ) (r : Option Piece) (after : Bor (List ℕ)) (j : ℕ) : Type 0 where
+  pub kept : after ≡ line
+  pub cut : MatchOption r ((i ≡ length line.now) × (j ≡ i)) (λ p. Cut line.now i j (view p))
+  pub place : IfSome r (λ p. LiesAt line i p)
+  -- whatever pieces came before it, they and it stand before the place j, or are all pieces of the line
+  pub all : (ps : List Part) → Given line.now ps i → MatchOption r (Divided line.now ps) (λ p. Given line.now (ps ++ view p ∷ []) j)

@@ -1,6 +1,6 @@
 // Cuts a line into its pieces.
 ghost use Rattle.std.specs.Prelude.{◌≡◌, ◌+◌, ◌-◌, ◌≤◌, List, [], ◌∷◌, ◌++◌, length, IfSome, MatchOption};
-ghost use Rattle.escape.specs.Pieces.{Part, bytes, view, Cut, LiesAt, Given, Divided};
+ghost use Rattle.escape.specs.Pieces.{Part, bytes, view, Cut, LiesAt, Given, Divided, NextPiece};
 ghost use Rattle.std.specs.Iterator.{at_most};
 
 use crate::piece::Piece;
@@ -25,8 +25,8 @@ fn cut(line: &[u8], from: usize) -> Option<Piece<'_>>
         return None;
     }
     match sequence_len(rest) {
-        Some(n) => Some(Piece::Colour(&rest[0..n])),
-        None => Some(Piece::Plain(&rest[0..plain_len(rest)])),
+        Some(n) => Some(Piece::Colour(&rest[..n])),
+        None => Some(Piece::Plain(&rest[..plain_len(rest)])),
     }
 }
 
@@ -37,29 +37,20 @@ impl<'a> AnsiCodeIterator<'a> {
     {
         AnsiCodeIterator { line, at: 0 }
     }
-
-    // The next piece, or None at the end of the line.
-    pub fn next_piece(&mut self) -> Option<Piece<'a>>
-        ensures line { self.new.line ≡ self.old.line }
-        ensures cut { MatchOption result ((self.old.at ≡ length self.old.line.now) × (self.new.at ≡ self.old.at)) (λ p. Cut self.old.line.now self.old.at self.new.at (view p)) }
-        ensures place { IfSome result (λ p. LiesAt self.old.line self.old.at p) }
-        ensures all { (ps : List Part) → Given self.old.line.now ps self.old.at → MatchOption result (Divided self.old.line.now ps) (λ p. Given self.old.line.now (ps ++ view p ∷ []) self.new.at) }
-    {
-        let from = self.at;
-        let piece = cut(self.line, from)?;
-        self.at = from + piece.as_bytes().len();
-        Some(piece)
-    }
 }
 
+// The next piece, or None at the end of the line.
 impl<'a> Iterator for AnsiCodeIterator<'a> {
     type Item = Piece<'a>;
 
-    ghost next_gives = { λ s r t. (t.line ≡ s.line) × MatchOption r (s.at ≡ length s.line.now) (λ p. Cut s.line.now s.at t.at (view p)) };
+    ghost next_gives = { λ s r t. NextPiece s.line s.at r t.line t.at };
 
     ghost remaining = { λ s. at_most (length s.line.now - s.at) };
 
     fn next(&mut self) -> Option<Piece<'a>> {
-        self.next_piece()
+        let from = self.at;
+        let piece = cut(self.line, from)?;
+        self.at = from + piece.as_bytes().len();
+        Some(piece)
     }
 }

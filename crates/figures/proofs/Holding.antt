@@ -1,4 +1,4 @@
--- The worked examples, by computation. Assumes nothing.
+-- The worked examples, by computation.
 use Rattle.std.proofs.Common.{refl}
 use lib.Utf8.{encode}
 use Rattle.std.specs.Str.{chars}

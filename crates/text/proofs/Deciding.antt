@@ -1,4 +1,4 @@
--- What is computed of a text is what is meant. Assumes nothing.
+-- What is computed of a text is what is meant.
 use Rattle.std.proofs.Common.{◌≡◌, ℕ, true, ◌&&◌, eqb, List, [], ◌∷◌, sym, refl, ap, ◌∙◌, arith}
 use lib.Utf8.{encodes, scalars}
 use Rattle.std.specs.Str.{chars, bytes_eq}

@@ -1,4 +1,4 @@
--- What the public calls promise of a measure. Assumes nothing.
+-- What the public calls promise of a measure.
 use Rattle.std.proofs.Common.{◌≡◌, ℕ, suc, ◌≤◌, true, List, [], ◌∷◌, length, sym, refl, ap, subst, arith}
 use Rattle.std.specs.Str.{chars}
 use Rattle.std.proofs.lemmas.Str.{length-le-encodes}

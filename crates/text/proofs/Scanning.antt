@@ -1,4 +1,4 @@
--- What one turn of the scan keeps. Assumes nothing.
+-- What one turn of the scan keeps.
 use Rattle.std.proofs.Common.{◌≡◌, ℕ, ◌+◌, ◌<◌, ◌≤◌, Bool, true, false, cond, ◌&&◌, List, [], ◌∷◌, ◌++◌, length, sym, refl, ap, ◌∙◌, subst, arith, length-append, ltb-false}
 use lib.Utf8.{scalar, scalars, encode, encodes}
 use Rattle.std.specs.Str.{chars}

@@ -1,4 +1,4 @@
--- From the first octets of a list to the list. Assumes nothing.
+-- From the first octets of a list to the list.
 use Rattle.std.proofs.Common.{◌≡◌, ℕ, zero, suc, ◌+◌, ◌-◌, ◌<◌, ◌≤◌, ◌⊎◌, List, [], ◌∷◌, ◌++◌, length, get_or, take, drop, sym, refl, ap, ◌∙◌, subst, inl, inr, append-nil, add_comm, arith, take-append-drop}
 use lib.Utf8.{encode, scalar_cases, low_scalar}
 use Rattle.std.proofs.lemmas.List.{take_rest}

@@ -1,4 +1,4 @@
--- The table is that of the standard library, whose lemmas then serve. Assumes nothing.
+-- The table is that of the standard library, whose lemmas then serve.
 use Rattle.std.proofs.Common.{◌≡◌, ℕ, true, ◌&&◌, List, [], ◌∷◌, ◌++◌, sym, refl, ap, ◌∙◌, subst, arith}
 use lib.Utf8.{encode, scalar, encodes, scalars}
 use Rattle.std.specs.Str as std
