@@ -6,7 +6,6 @@ use Rattle.refusal.specs.Numbers.{number}
 use Rattle.refusal.specs.declared.Refusal.{Refusal}
 use Rattle.refusal.specs.declared.Refusal.TheVariants.{Size, Cells, Rate, SlotsTaken, NotHeld, NotAdmissible, TooLong, TooMany, Credit}
 use Rattle.text.specs.declared.line.LineType.{LineType}
-use Rattle.text.specs.declared.metrics.VisualLines.{VisualLines}
 use Rattle.text.specs.declared.metrics.Metrics.{Metrics}
 use Rattle.text.specs.Outcomes.{measured, measure_number, first_line, Measured}
 use Rattle.text.specs.Lines.{bytes, count_number, heights, Counted}
@@ -32,11 +31,11 @@ module _ (W : ℕ) (u : ℕ → ℕ) (ls : List LineType) where
   by_first : (n rest : ℕ) → (n ≡ 0 → cond (eqb n 0) rest n ≡ rest) × (0 < n → cond (eqb n 0) rest n ≡ n)
   by_first n rest = (λ e. grind (arith, nat_tests), λ h. grind (arith, nat_tests))
 
-  pub more : (i rows : ℕ) (d : LineType) (m : Metrics) (next : ℕ) → i < length ls → Sofar W u ls i rows → Measured W u (bytes (get_or ls i d)) (Ok m) → next ≡ min (2 ^ 64 - 1) (rows + m.height.0) → Sofar W u ls (i + 1) next
+  pub more : (i rows : ℕ) (d : LineType) (m : Metrics) (next : ℕ) → i < length ls → Sofar W u ls i rows → Measured W u (bytes (get_or ls i d)) (Ok m) → next ≡ min (2 ^ 64 - 1) (rows + m.height) → Sofar W u ls (i + 1) next
   more i rows d m next h s k n =
       let l = get_or ls i d in
-      let tall : m.height.0 ≡ (measured W u (bytes l)).height.0 = ap (λ x. x.height.0) k.value.is in
-      let left : heights W u (drop i ls) ≡ (measured W u (bytes l)).height.0 + heights W u (drop (i + 1) ls) = ap (heights W u) (here i d h) in
+      let tall : m.height ≡ (measured W u (bytes l)).height = ap (λ x. x.height) k.value.is in
+      let left : heights W u (drop i ls) ≡ (measured W u (bytes l)).height + heights W u (drop (i + 1) ls) = ap (heights W u) (here i d h) in
       record {
         number = sym ((by_first (measure_number W (bytes l)) _).0 (sym k.number)) ∙ number_left i d rows h s;
         total = omega (arith, s.total, tall, left, n);
@@ -52,7 +51,7 @@ module _ (W : ℕ) (u : ℕ → ℕ) (ls : List LineType) where
       let n : number e ≡ count_number W ls = k.number ∙ sym ((by_first (measure_number W (bytes l)) _).1 (subst (λ x. 0 < x) k.number (positive e))) ∙ number_left i d rows h s in
       record { number = n; place = k.place ∙ ap first_line (sym k.number ∙ n); value = tt }
 
-  pub all : (rows : VisualLines) → Sofar W u ls (length ls) rows.0 → Counted W u ls (Ok rows)
+  pub all : (rows : ℕ) → Sofar W u ls (length ls) rows → Counted W u ls (Ok rows)
   all rows s =
       let none : drop (length ls) ls ≡ [] = drop-length ls in
       let n : ◌≡◌ {A = ℕ} 0 (count_number W ls) = ap (count_number W) (sym none) ∙ s.number in

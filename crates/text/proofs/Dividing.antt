@@ -108,11 +108,11 @@ module _ (W : ℕ) (u : ℕ → ℕ) (rule : (c : ℕ) → u c ≤ W) where
 
   -- ---- the pen measures it
   record Ended (row : List ℕ) (m : Metrics) (k : Cutting) (n : Metrics) : Type 0 where
-    height : n.height.0 ≡ m.height.0 + length k.later
+    height : n.height ≡ m.height + length k.later
     column : n.last_line_width ≡ span u (final ((row ++ k.first) ∷ k.later))
 
   abbrev down : ℕ → Metrics → Metrics
-  down w m = record { height = record { 0 = m.height.0 + 1 }; last_line_width = w }
+  down w m = record { height = m.height + 1; last_line_width = w }
 
   abbrev along : ℕ → Metrics → Metrics
   along w m = record { height = m.height; last_line_width = m.last_line_width + w }
@@ -154,11 +154,11 @@ module _ (W : ℕ) (u : ℕ → ℕ) (rule : (c : ℕ) → u c ≤ W) where
   pub column_fits : (xs : List ℕ) → (metrics W u start xs).last_line_width ≤ W
   column_fits xs = let m = measures xs in omega (arith, m.column, final_fits m.division.stand)
 
-  placed_rows : (m : Metrics) (w : ℕ) (b : Bool) → let n = cond b (down w m) (along w m) in (m.height.0 ≤ n.height.0) × (n.height.0 ≤ m.height.0 + 1)
+  placed_rows : (m : Metrics) (w : ℕ) (b : Bool) → let n = cond b (down w m) (along w m) in (m.height ≤ n.height) × (n.height ≤ m.height + 1)
   placed_rows m w true = (omega arith, omega arith)
   placed_rows m w false = (omega arith, omega arith)
 
-  rows_bound : (cs : List ℕ) (m : Metrics) → let n = metrics W u m cs in (m.height.0 ≤ n.height.0) × (n.height.0 ≤ m.height.0 + length cs)
+  rows_bound : (cs : List ℕ) (m : Metrics) → let n = metrics W u m cs in (m.height ≤ n.height) × (n.height ≤ m.height + length cs)
   rows_bound [] m = (omega arith, omega arith)
   rows_bound (c ∷ cs) m =
       let k = placed_rows m (u c) (wraps W m.last_line_width (u c)) in
@@ -166,9 +166,9 @@ module _ (W : ℕ) (u : ℕ → ℕ) (rule : (c : ℕ) → u c ≤ W) where
       (omega (arith, k, r), omega (arith, k, r))
 
   -- the first character never wraps
-  pub rows_within : (xs : List ℕ) → let n = metrics W u start xs in (1 ≤ n.height.0) × (n.height.0 ≤ max 1 (length xs))
+  pub rows_within : (xs : List ℕ) → let n = metrics W u start xs in (1 ≤ n.height) × (n.height ≤ max 1 (length xs))
   rows_within [] = (omega arith, omega arith)
   rows_within (c ∷ cs) =
       let e : wraps W 0 (u c) ≡ false = let h = rule c in grind (arith, nat_tests) in
-      subst (λ b. let n = metrics W u (cond b (down (u c) start) (along (u c) start)) cs in (1 ≤ n.height.0) × (n.height.0 ≤ max 1 (suc (length cs)))) (sym e)
+      subst (λ b. let n = metrics W u (cond b (down (u c) start) (along (u c) start)) cs in (1 ≤ n.height) × (n.height ≤ max 1 (suc (length cs)))) (sym e)
       (let r = rows_bound cs (along (u c) start) in (omega (arith, r), omega (arith, r)))

@@ -1,6 +1,8 @@
 -- What the public calls promise of a measure.
-use Rattle.std.proofs.Common.{◌≡◌, ℕ, suc, ◌≤◌, true, List, [], ◌∷◌, length, sym, refl, ap, subst, arith}
+use Rattle.std.proofs.Common.{◌≡◌, ℕ, suc, ◌≤◌, true, false, Some, None, Option, MatchOption, List, [], ◌∷◌, length, sym, refl, ap, subst, arith, rules, ok_or}
 use Rattle.std.specs.Str.{chars}
+use Rattle.std.proofs.lemmas.Bool.Decides.{nat_tests}
+use Rattle.refusal.specs.declared.Refusal.TheVariants.{NotAdmissible}
 use Rattle.std.proofs.lemmas.Str.{length-le-encodes}
 use Rattle.std.proofs.str.Laws.{both}
 use Rattle.escape.specs.Reader.{verdict, after}
@@ -8,18 +10,18 @@ use Rattle.escape.specs.Reading.{kept, letters, accepts}
 use Rattle.escape.specs.declared.reader.State.{State}
 use Rattle.escape.specs.declared.reader.State.TheVariants.{Ground}
 use Rattle.escape.specs.declared.reader.Verdict.{Verdict}
-use Rattle.escape.specs.declared.reader.Verdict.TheVariants.{Plain, Colour, Refused}
+use Rattle.escape.specs.declared.reader.Verdict.TheVariants.{Plain, Colour}
 use Rattle.text.specs.declared.metrics.Metrics.{Metrics}
 use Rattle.text.specs.Width.{Rule}
 use Rattle.text.specs.Texts.{utf8, admissible, characters}
-use Rattle.text.specs.Outcomes.{measured, Line}
+use Rattle.text.specs.Outcomes.{measured, Line, Measured}
 use Rattle.text.proofs.Deciding.{decided, codes_of}
 use Rattle.text.proofs.Dividing.{measures, column_fits, rows_within}
 
-kept_fewer : (v : Verdict) (c : ℕ) (xs : List ℕ) → length (kept v c xs) ≤ suc (length xs)
-kept_fewer Plain c xs = omega arith
-kept_fewer Colour c xs = omega arith
-kept_fewer Refused c xs = omega arith
+kept_fewer : (v : Option Verdict) (c : ℕ) (xs : List ℕ) → length (kept v c xs) ≤ suc (length xs)
+kept_fewer (Some Plain) c xs = omega arith
+kept_fewer (Some Colour) c xs = omega arith
+kept_fewer None c xs = omega arith
 
 letters_fewer : (cs : List ℕ) (st : State) → length (letters st cs) ≤ length cs
 letters_fewer [] st = omega arith
@@ -50,3 +52,9 @@ line W u bs m rule h e is = subst (Line W u bs) (sym is) computed
           rows = r.0;
           most = omega (arith, r.1, characters_fewer bs e);
         }
+
+-- the outcome of a scan is that of the measure
+pub answered : (W : ℕ) (u : ℕ → ℕ) (bs : List ℕ) (r : Option Metrics) → Rule u → 2 ≤ W → W ≤ 512 → length bs ≤ 128 → MatchOption r (admissible bs ≡ false) (λ m. (admissible bs ≡ true) × (m ≡ measured W u bs))
+    → Measured W u bs (ok_or r (NotAdmissible 0))
+answered W u bs None rule low high short refused = record { number = search (rules, nat_tests); place = search (rules, nat_tests); value = tt }
+answered W u bs (Some m) rule low high short (fine, is) = record { number = search (rules, nat_tests); place = search (rules, nat_tests); value = line W u bs m rule low fine is }

@@ -4,7 +4,6 @@ use Rattle.refusal.specs.Numbers.{code, beside}
 use Rattle.refusal.specs.declared.Refusal.{Refusal}
 use Rattle.text.specs.declared.line.LineType.{LineType}
 use Rattle.text.specs.declared.line.LineType.TheVariants.{Text, Bar, Empty}
-use Rattle.text.specs.declared.metrics.VisualLines.{VisualLines}
 use Rattle.text.specs.Outcomes.{measured, measure_number, first_line}
 
 abbrev pub bytes : LineType → List ℕ
@@ -19,9 +18,9 @@ count_number W (l ∷ ls) = cond (measure_number W (bytes l) == 0) (count_number
 
 abbrev pub heights : ℕ → (ℕ → ℕ) → List LineType → ℕ
 heights W u [] = 0
-heights W u (l ∷ ls) = (measured W u (bytes l)).height.0 + heights W u ls
+heights W u (l ∷ ls) = (measured W u (bytes l)).height + heights W u ls
 
-pub record Counted (W : ℕ) (u : ℕ → ℕ) (ls : List LineType) (r : Result VisualLines Refusal) : Type 0 where
+pub record Counted (W : ℕ) (u : ℕ → ℕ) (ls : List LineType) (r : Result ℕ Refusal) : Type 0 where
   pub number : code r ≡ count_number W ls
   pub place : beside r ≡ first_line (count_number W ls)
-  pub value : IfOk r (λ rows. rows.0 ≡ min (2 ^ 64 - 1) (heights W u ls))
+  pub value : IfOk r (λ rows. rows ≡ min (2 ^ 64 - 1) (heights W u ls))

@@ -32,8 +32,8 @@ pub record Line (W : ℕ) (u : ℕ → ℕ) (bs : List ℕ) (m : Metrics) : Type
   pub is : m ≡ measured W u bs
   pub measures : Measures W u (characters bs) m
   pub column : m.last_line_width ≤ W
-  pub rows : 1 ≤ m.height.0
-  pub most : m.height.0 ≤ max 1 (length bs)
+  pub rows : 1 ≤ m.height
+  pub most : m.height ≤ max 1 (length bs)
 
 pub record Measured (W : ℕ) (u : ℕ → ℕ) (bs : List ℕ) (r : Result Metrics Refusal) : Type 0 where
   pub number : code r ≡ measure_number W bs

@@ -32,7 +32,7 @@ pub record Measures (W : ℕ) (u : ℕ → ℕ) (xs : List ℕ) (m : Metrics) : 
   pub rows : List (List ℕ)
   pub division : Division W u xs rows
   pub only : (others : List (List ℕ)) → Division W u xs others → others ≡ rows
-  pub height : m.height.0 ≡ length rows
+  pub height : m.height ≡ length rows
   pub column : m.last_line_width ≡ span u (final rows)
 
 -- ---- the same, computed: one step of the pen for each character
@@ -41,11 +41,11 @@ abbrev pub wraps : ℕ → ℕ → ℕ → Bool
 wraps W col w = nat_lt W (col + w)
 
 abbrev pub start : Metrics
-start = record { height = record { 0 = 1 }; last_line_width = 0 }
+start = record { height = 1; last_line_width = 0 }
 
 abbrev pub placed : ℕ → ℕ → Metrics → Metrics
 placed W w m = cond (wraps W m.last_line_width w)
-    (record { height = record { 0 = m.height.0 + 1 }; last_line_width = w })
+    (record { height = m.height + 1; last_line_width = w })
     (record { height = m.height; last_line_width = m.last_line_width + w })
 
 abbrev pub metrics : ℕ → (ℕ → ℕ) → Metrics → List ℕ → Metrics

@@ -8,7 +8,7 @@ use crate::metrics::{Metrics, VisualLines};
 use crate::width::WidthRule;
 use refusal::Refusal;
 
-#[derive(Clone, Copy)]
+#[derive(Clone, Copy, Debug, PartialEq, Eq)]
 pub enum LineType<'a> {
     Text(&'a [u8]),
     Bar(&'a [u8]),
@@ -40,7 +40,7 @@ pub fn visual_line_count<R: WidthRule>(
 ) -> Result<VisualLines, Refusal>
     ensures { Counted width (R.cells rule.now) lines.now result }
 {
-    let mut rows = VisualLines::new(0);
+    let mut rows = VisualLines::from(0);
     for line in lines {
         let metrics = line.wrapped_metrics(width, rule)?;
         rows = rows.saturating_add(metrics.height);

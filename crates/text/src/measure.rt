@@ -21,8 +21,5 @@ pub fn measure<R: WidthRule>(width: usize, rule: &R, text: &[u8]) -> Result<Metr
     if MOST_BYTES < text.len() {
         return Err(Refusal::TooLong(0));
     }
-    match scan(width, rule, text) {
-        Some(metrics) => Ok(metrics),
-        None => Err(Refusal::NotAdmissible(0)),
-    }
+    scan(width, rule, text).ok_or(Refusal::NotAdmissible(0))
 }

@@ -16,19 +16,12 @@ pub(crate) fn scan<R: WidthRule>(width: usize, rule: &R, text: &[u8]) -> Option<
     let mut metrics = Metrics::start();
     let mut rest = text;
     while !rest.is_empty() {
-        let Some((c, tail)) = decode(rest) else {
-            return None;
-        };
-        match reader.read(c) {
+        let (c, tail) = decode(rest)?;
+        match reader.read(c)? {
             Verdict::Plain => metrics = metrics.place(width, rule.width(c)),
             Verdict::Colour => {}
-            Verdict::Refused => return None,
         }
         rest = tail;
     }
-    if reader.is_ground() {
-        Some(metrics)
-    } else {
-        None
-    }
+    reader.is_ground().then_some(metrics)
 }

@@ -13,7 +13,7 @@ pub trait WidthRule {
 }
 
 // Every code point takes one cell.
-#[derive(Clone, Copy)]
+#[derive(Clone, Copy, Debug)]
 pub struct Plain;
 
 impl WidthRule for Plain {
@@ -27,7 +27,7 @@ impl WidthRule for Plain {
 }
 
 // Combining marks take no cell, and some scripts two.
-#[derive(Clone, Copy)]
+#[derive(Clone, Copy, Debug)]
 pub struct House;
 
 impl WidthRule for House {

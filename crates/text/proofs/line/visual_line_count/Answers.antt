@@ -4,7 +4,7 @@ use Rattle.text.proofs.Counting.{Sofar, first, more, refused, all}
 use Rattle.text.proofs.line.visual_line_count.Goals as goal
 
 pub loop-line-init : goal.loop-line-init
-loop-line-init g c = first _ _ _ _ c.new-rows.ensures
+loop-line-init g c = first _ _ _ _ c.from-rows.ensures
 
 pub returns-in_err-metrics : goal.returns-in_err-metrics
 returns-in_err-metrics g c =
@@ -15,4 +15,4 @@ pub loop-line-preserved : goal.loop-line-preserved
 loop-line-preserved g c = more _ _ _ _ _ _ _ _ c.loop-line-test.true c.loop-line.invariant c.in_ok-metrics.ensures c.saturating_add-rows.ensures
 
 pub returns : goal.returns
-returns g c = let end : c.loop-line.line-index ≡ length c.args.lines.now = omega arith in all _ _ _ _ (subst (λ i. Sofar c.args.width (g.R.WidthRule.cells c.args.rule.now) c.args.lines.now i c.loop-line.rows.0) end c.loop-line.invariant)
+returns g c = let end : c.loop-line.line-index ≡ length c.args.lines.now = omega arith in all _ _ _ _ (subst (λ i. Sofar c.args.width (g.R.WidthRule.cells c.args.rule.now) c.args.lines.now i c.loop-line.rows) end c.loop-line.invariant)

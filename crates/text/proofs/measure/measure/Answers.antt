@@ -1,8 +1,6 @@
-use Rattle.std.proofs.Common.{arith, rules}
-use Rattle.text.proofs.Measuring.{line}
+use Rattle.std.proofs.Common.{arith}
+use Rattle.text.proofs.Measuring.{answered}
 use Rattle.text.proofs.measure.measure.Goals as goal
 
-pub returns-in-Some : goal.returns-in-Some
-returns-in-Some g c =
-    let m = c.in-Some.ensures in
-    record { number = search rules; place = search rules; value = line _ _ _ _ (g.R.WidthRule.lawful c.args.rule.now) (omega arith) m.0 m.1 }
+pub returns : goal.returns
+returns g c = rw c.ok_or.ensures.value (answered _ _ _ c.scan.result (g.R.WidthRule.lawful c.args.rule.now) (omega arith) (omega arith) (omega arith) c.scan.ensures)
