@@ -40,7 +40,7 @@ pub fn visual_line_count<R: WidthRule>(
 ) -> Result<VisualLines, Refusal>
     ensures { Counted width (R.cells rule.now) lines.now result }
 {
-    let mut rows = VisualLines::from(0);
+    let mut rows = VisualLines::default();
     for line in lines {
         let metrics = line.wrapped_metrics(width, rule)?;
         rows = rows.saturating_add(metrics.height);

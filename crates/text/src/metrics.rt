@@ -5,7 +5,7 @@ ghost use Rattle.text.specs.Rows.{placed, start};
 use std::marker::Model;
 
 // A number of rows on a screen.
-#[derive(Clone, Copy, Debug, PartialEq, Eq, PartialOrd, Ord)]
+#[derive(Clone, Copy, Debug, Default, PartialEq, Eq, PartialOrd, Ord)]
 pub struct VisualLines(usize);
 
 impl Model for VisualLines {

@@ -61,9 +61,9 @@ mod tests {
         ];
         assert_eq!(rt;
             visual_line_count(&three, 2, &Plain),
-            Ok(VisualLines::new(4))
+            Ok(VisualLines::from(4))
         );
-        assert_eq!(rt; visual_line_count(&[], 1, &House), Ok(VisualLines::new(0)));
+        assert_eq!(rt; visual_line_count(&[], 1, &House), Ok(VisualLines::from(0)));
         assert_eq!(rt;
             visual_line_count(&[LineType::Empty], 1, &House),
             Err(Refusal::Size)

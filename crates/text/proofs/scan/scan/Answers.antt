@@ -2,25 +2,16 @@ use Rattle.std.proofs.Common.{arith, rules, sym, ap, ◌∙◌, Some}
 use Rattle.text.proofs.Scanning.{shorter, first, no_char, refused, plain, colour, ended}
 use Rattle.text.proofs.scan.scan.Goals as goal
 
-pub loop-rest-init : goal.loop-rest-init
-loop-rest-init g c = first _ _ _ _ _ c.new-reader.ensures c.start-metrics.ensures
-
 pub returns-in_err-c : goal.returns-in_err-c
 returns-in_err-c g c = simp c.from_residual.ensures (no_char _ _ _ _ _ _ c.loop-rest.invariant (search rules) c.in_err-c.ensures.read)
 
 pub returns-in_err-read : goal.returns-in_err-read
 returns-in_err-read g c = simp c.from_residual-in_err-read.ensures (refused _ _ _ _ _ _ _ _ c.loop-rest.invariant c.in_ok-c.ensures.read (sym c.in_err-read.was ∙ c.read.ensures.value))
 
-pub loop-rest-smaller-in-Plain : goal.loop-rest-smaller-in-Plain
-loop-rest-smaller-in-Plain g c = shorter _ _ _ c.in_ok-c.ensures.read
-
 pub loop-rest-preserved-in-Plain : goal.loop-rest-preserved-in-Plain
 loop-rest-preserved-in-Plain g c =
     let verdict = sym (c.in_ok-read.was ∙ ap Some c.in-Plain.is) ∙ c.read.ensures.value in
     plain _ _ _ _ _ _ _ _ _ _ _ c.requires ((g.R.WidthRule.lawful c.args.rule.now).narrow c.in_ok-c.c) c.loop-rest.invariant c.in_ok-c.ensures.read verdict c.read.ensures.state c.width.ensures c.place-metrics.ensures
-
-pub loop-rest-smaller : goal.loop-rest-smaller
-loop-rest-smaller g c = shorter _ _ _ c.in_ok-c.ensures.read
 
 pub loop-rest-preserved : goal.loop-rest-preserved
 loop-rest-preserved g c =
@@ -29,6 +20,3 @@ loop-rest-preserved g c =
 
 pub returns : goal.returns
 returns g c = rw c.then_some.ensures (ended _ _ _ _ _ _ c.is_ground.result c.loop-rest.invariant (search rules) c.is_ground.ensures)
-
-pub place-metrics-requires : goal.place-metrics-requires
-place-metrics-requires g c = (search rules, omega (arith, c.loop-rest.invariant.column), omega (arith, c.width.ensures, (g.R.WidthRule.lawful c.args.rule.now).narrow c.in_ok-c.c))
