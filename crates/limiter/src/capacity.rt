@@ -38,7 +38,7 @@ impl<const MAX_BURST: u8> Capacity<MAX_BURST> {
     }
 }
 
-// As its number alone.
+// The number alone: a limiter shows its capacity as one.
 impl<const MAX_BURST: u8> fmt::Debug for Capacity<MAX_BURST> {
     fn fmt<W: fmt::Write>(&self, f: &mut fmt::Formatter<W>) -> fmt::Result {
         fmt::Debug::fmt(&self.held, f)
