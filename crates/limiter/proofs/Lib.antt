@@ -1,4 +1,3 @@
-pub mod Intervals
 pub mod Rationing
 pub mod Pacing
 pub mod Examples

@@ -4,18 +4,10 @@ use Rattle.limiter.specs.Ration as ration
 use Rattle.limiter.specs.History.{latest, bound}
 use Rattle.limiter.specs.Standing as standing
 
--- the answers to questions at these readings, the oldest first, and where they lead
-abbrev pub answers : ration.Ration → List ℕ → List Bool
-answers r [] = []
-answers r (reading ∷ readings) = ration.grants r reading ∷ answers (ration.asked r reading) readings
-
-abbrev pub led : ration.Ration → List ℕ → ration.Ration
-led r [] = r
-led r (reading ∷ readings) = led (ration.asked r reading) readings
-
-abbrev pub polls : standing.Standing → List ℕ → List Bool
-polls s [] = []
-polls s (reading ∷ readings) = standing.grants s reading ∷ polls (standing.polled s reading) readings
+-- the answers to questions at these readings, the oldest first, where each is answered by `grants` and leads on by `asked`
+abbrev pub answers : {S : Type 0} → (S → ℕ → Bool) → (S → ℕ → S) → S → List ℕ → List Bool
+answers grants asked s [] = []
+answers grants asked s (reading ∷ readings) = grants s reading ∷ answers grants asked (asked s reading) readings
 
 pub record Figures : Type 0 where
   -- from making, at most 20 yes answers and one for each interval of 1000 / rate milliseconds
@@ -28,12 +20,12 @@ pub record Figures : Type 0 where
   pub slowest : (ration.fresh 1 0).interval ≡ 1000
   pub fastest : (ration.fresh 255 0).interval ≡ 3
   -- made at one second for 20 a second: the burst, then nothing until 50 milliseconds have passed
-  pub burst : answers (ration.fresh 20 1000000000) (replicate 20 1000000000 ++ (1000000000 ∷ 1049999999 ∷ 1050000000 ∷ [])) ≡ replicate 20 true ++ (false ∷ false ∷ true ∷ [])
+  pub burst : answers ration.grants ration.asked (ration.fresh 20 1000000000) (replicate 20 1000000000 ++ (1000000000 ∷ 1049999999 ∷ 1050000000 ∷ [])) ≡ replicate 20 true ++ (false ∷ false ∷ true ∷ [])
   -- an hour's pause earns a burst and no more
-  pub pause : answers (ration.fresh 20 0) (replicate 22 3600000000000) ≡ replicate 21 true ++ (false ∷ [])
+  pub pause : answers ration.grants ration.asked (ration.fresh 20 0) (replicate 22 3600000000000) ≡ replicate 21 true ++ (false ∷ [])
   -- the 9 milliseconds left of a third interval are not lost
-  pub remainder : led (ration.fresh 20 0) (109000000 ∷ []) ≡ record { interval = 50; capacity = 20; prev = 100000000 }
+  pub remainder : ration.asked (ration.fresh 20 0) 109000000 ≡ record { interval = 50; capacity = 20; prev = 100000000 }
   -- a position made at one second: the burst, then one each millisecond
-  pub reports : polls (standing.fresh 1000000000) (replicate 11 1000000000 ++ (1000999999 ∷ 1001000000 ∷ [])) ≡ replicate 10 true ++ (false ∷ false ∷ true ∷ [])
+  pub reports : answers standing.grants standing.polled (standing.fresh 1000000000) (replicate 11 1000000000 ++ (1000999999 ∷ 1001000000 ∷ [])) ≡ replicate 10 true ++ (false ∷ false ∷ true ∷ [])
   -- before the start there is no report
-  pub early : polls (standing.fresh 1000000000) (999999999 ∷ []) ≡ false ∷ []
+  pub early : answers standing.grants standing.polled (standing.fresh 1000000000) (999999999 ∷ []) ≡ false ∷ []

@@ -1,15 +1,11 @@
 -- What a rate limiter holds, and what a question makes of it. A reading is a clock's value in nanoseconds.
-use Rattle.std.specs.Prelude.{ℕ, ◌+◌, ◌-◌, ◌*◌, ◌/◌, Bool, cond, ◌&&◌, ◌||◌, nat_le, nat_lt}
-use Rattle.limiter.specs.declared.rate.RateLimiter.{RateLimiter}
-use Rattle.limiter.specs.Spending.{spend}
+use Rattle.std.specs.Prelude.{ℕ, ◌+◌, ◌-◌, ◌*◌, ◌/◌, Bool, cond, ◌&&◌, nat_le}
+use Rattle.limiter.specs.Spending.{funded, spend}
 
 pub record Ration : Type 0 where
   pub interval : ℕ
   pub capacity : ℕ
   pub prev : ℕ
-
-abbrev pub ration : RateLimiter → Ration
-ration l = record { interval = l.interval; capacity = l.capacity; prev = l.prev }
 
 -- made for `rate` yes answers a second, at the reading t0: the interval is in whole milliseconds
 abbrev pub fresh : ℕ → ℕ → Ration
@@ -25,7 +21,7 @@ passed r now = (now - r.prev) / nanos r
 
 -- yes, unless the reading lies before prev, or nothing is held and no whole interval has passed
 abbrev pub grants : Ration → ℕ → Bool
-grants r now = nat_le r.prev now && (nat_lt 0 r.capacity || nat_le (nanos r) (now - r.prev))
+grants r now = nat_le r.prev now && funded r.capacity (now - r.prev) (nanos r)
 
 -- a yes answer: each interval passed has earned one, and prev moves over these intervals
 abbrev pub granted : Ration → ℕ → Ration

@@ -1,7 +1,6 @@
 -- What a position and its limiter hold, and what each call makes of it. A reading is a clock's value in nanoseconds.
-use Rattle.std.specs.Prelude.{ℕ, ◌+◌, ◌-◌, ◌*◌, ◌/◌, min, Bool, cond, ◌&&◌, ◌||◌, nat_le, nat_lt}
-use Rattle.limiter.specs.declared.position.AtomicPosition.{AtomicPosition}
-use Rattle.limiter.specs.Spending.{spend}
+use Rattle.std.specs.Prelude.{ℕ, ◌+◌, ◌-◌, ◌*◌, ◌/◌, min, Bool, cond, ◌&&◌, nat_le}
+use Rattle.limiter.specs.Spending.{funded, spend}
 
 -- prev counts from start, which is a reading
 pub record Standing : Type 0 where
@@ -9,9 +8,6 @@ pub record Standing : Type 0 where
   pub capacity : ℕ
   pub prev : ℕ
   pub start : ℕ
-
-abbrev pub standing : AtomicPosition → Standing
-standing p = record { pos = p.pos; capacity = p.capacity; prev = p.prev; start = p.start }
 
 abbrev pub fresh : ℕ → Standing
 fresh start = record { pos = 0; capacity = 10; prev = 0; start = start }
@@ -29,7 +25,7 @@ passed s now = since s now / 1000000
 
 -- yes, unless the reading lies before the start, or nothing is held and no whole millisecond has passed
 abbrev pub grants : Standing → ℕ → Bool
-grants s now = nat_le s.start now && (nat_lt 0 s.capacity || nat_le 1000000 (since s now))
+grants s now = nat_le s.start now && funded s.capacity (since s now) 1000000
 
 -- a yes answer: each millisecond passed has earned one, and prev moves over these, or back to a reading before it
 abbrev pub granted : Standing → ℕ → Standing

@@ -1,19 +1,77 @@
 // A bar's position, and the limiter of its reports: one each millisecond, and a burst above it.
-ghost use Rattle.std.specs.Prelude.{◌≡◌, ◌≤◌};
+ghost use Rattle.std.specs.Prelude.{◌≡◌, ℕ, ◌≤◌};
+ghost use Rattle.limiter.specs.Standing.{fresh, placed, restarted};
+ghost use Rattle.limiter.specs.Course.{Polled, Course, Paced};
 
-mod calls;
+use crate::capacity::{Capacity, NANOS_PER_MILLI};
+use std::marker::Model;
+
+const INTERVAL: u64 = NANOS_PER_MILLI;
+
+const MAX_BURST: u8 = 10;
 
 #[derive(Debug, Drop)]
 pub struct AtomicPosition {
     pos: u64,
-    capacity: u8,
+    capacity: Capacity<MAX_BURST>,
     // nanoseconds from `start`, up to which milliseconds were counted
     prev: u64,
     start: u64,
-    ghost few: { capacity ≤ 10 },
+}
+
+impl Model for AtomicPosition {
+    ghost use Rattle.limiter.specs.Standing.{Standing};
+
+    ghost Value = { Standing };
+
+    ghost view = { λ p. record { pos = p.pos; capacity = p.capacity.held; prev = p.prev; start = p.start } };
 }
 
 impl AtomicPosition {
+    // At position 0, for a bar that starts at the reading `start`.
+    pub fn new(start: u64) -> AtomicPosition
+        ensures { result ≡ fresh start }
+    {
+        AtomicPosition {
+            pos: 0,
+            capacity: Capacity::full(),
+            prev: 0,
+            start,
+        }
+    }
+
+    // Whether the position may be reported at the reading `now`.
+    pub fn allow(&mut self, now: u64) -> bool
+        ensures polled { Polled self.old now result self.new }
+        ensures paced { (start last yeses : ℕ) → last ≤ now → Course start last yeses self.old → Paced start last yeses now result self.new }
+        ensures few { (self.old.capacity ≤ 10) × (self.new.capacity ≤ 10) }
+    {
+        let Some(elapsed) = now.checked_sub(self.start) else {
+            return false;
+        };
+        // where the clock has gone back, nothing is earned
+        let since = elapsed.saturating_sub(self.prev);
+        let Some(rest) = self.capacity.spend(since, INTERVAL) else {
+            return false;
+        };
+        self.prev = elapsed - rest;
+        true
+    }
+
+    // Starts again at the reading `now`, with the capacity that is held.
+    pub fn reset(&mut self, now: u64)
+        ensures { self.new ≡ restarted self.old now }
+    {
+        self.set(0);
+        self.prev = now.saturating_sub(self.start);
+    }
+
+    pub fn set(&mut self, pos: u64)
+        ensures { self.new ≡ placed self.old pos }
+    {
+        self.pos = pos;
+    }
+
     pub fn get(&self) -> u64
         ensures { result ≡ self.now.pos }
     {

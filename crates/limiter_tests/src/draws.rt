@@ -1,26 +1,15 @@
 // Vectors of the rate limiter.
-use crate::shown::holds;
+use crate::asked::{answers, holds};
 use limiter::RateLimiter;
-use std::process::Abort;
+use refusal::Refusal;
 use std::test::Fail;
 
 const MAX: u64 = u64::MAX;
 
-// Asks so many times at each reading, and expects one answer each time.
-fn answers(rt: &impl Abort, limiter: &mut RateLimiter, expected: &[(u64, u8, bool)]) {
-    for (now, times, answer) in expected {
-        for _ in 0..*times {
-            assert_eq!(rt; limiter.allow(*now), *answer);
-        }
-    }
-}
-
 #[test]
 fn rate_zero_is_refused(rt: HostRuntime) -> Result<(), Fail> {
-    let Err(refused) = RateLimiter::new(0, MAX) else {
-        return Err(Fail::new("a limiter of rate 0"));
-    };
-    assert_eq!(rt; refused.number(), 3);
+    let refused = RateLimiter::new(0, MAX).err();
+    assert_eq!(rt; refused.map(Refusal::number), Some(3));
     Ok(())
 }
 

@@ -2,8 +2,8 @@
 #![tactic(auto)]
 
 #[cfg(test)]
+mod asked;
+#[cfg(test)]
 mod draws;
 #[cfg(test)]
 mod reports;
-#[cfg(test)]
-mod shown;

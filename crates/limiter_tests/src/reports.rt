@@ -1,19 +1,9 @@
 // Vectors of the position and its limiter.
-use crate::shown::holds;
+use crate::asked::{answers, holds};
 use limiter::AtomicPosition;
-use std::process::Abort;
 use std::test::Fail;
 
 const MAX: u64 = u64::MAX;
-
-// Asks so many times at each reading, and expects one answer each time.
-fn answers(rt: &impl Abort, position: &mut AtomicPosition, expected: &[(u64, u8, bool)]) {
-    for (now, times, answer) in expected {
-        for _ in 0..*times {
-            assert_eq!(rt; position.allow(*now), *answer);
-        }
-    }
-}
 
 #[test]
 fn burst_and_edges(rt: HostRuntime) -> Result<(), Fail> {
