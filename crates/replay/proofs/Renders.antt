@@ -1,15 +1,14 @@
--- The bytes that a text means and the order that a command says, computed, and how a byte is written.
-use Rattle.std.proofs.Common.{◌/◌, ◌%◌, get_or, ◌≡◌, ℕ, zero, suc, ◌<◌, ◌≤◌, ◌&&◌, eqb, ltb, List, [], ◌∷◌, length, Some, None, Option, MatchOption, refl, sym, ap, arith, subst}
-use Rattle.std.specs.Char.{digit_char, digit_value}
+-- The bytes that a text means and the order that a command says, computed.
+use Rattle.std.proofs.Common.{get_or, ◌≡◌, ℕ, zero, suc, ◌<◌, ◌≤◌, ◌&&◌, eqb, ltb, List, [], ◌∷◌, length, Some, None, Option, MatchOption, refl, sym, ap, arith, subst}
+use Rattle.std.specs.Char.{digit_value}
 use Rattle.std.proofs.lemmas.Bool.{and_from, and_parts, both_ways, cond_both, eqb-false, eqb-true, lt-ltb, ltb-true}
-use Rattle.std.proofs.lemmas.Bool.Decides.{nat_tests}
 use Rattle.script.specs.Escapes.{Hex, Byte, NoByte, itself, backslash, newline, coded, none, more, Means}
 use Rattle.script.proofs.Bytes.{byte_less, means_one, no_byte_nil, no_escape}
 use Rattle.replay.specs.declared.command.Command.{Command}
 use Rattle.replay.specs.declared.command.Command.TheVariants.{Measure, Admit, Limiter, LimiterAllow, Position, PositionAllow, PositionReset, PositionSet, PositionGet}
 use Rattle.replay.specs.Commands.{Says, a_measure, an_admit, a_limiter, a_limiter_allow, a_position, a_position_allow, a_position_reset, a_position_set, a_position_get}
 use Rattle.replay.specs.Orders.{Order, measure, admit}
-use Rattle.replay.specs.Rendering.{escaped_byte, first_coded, first_escaped, first_byte, first_then, meaning, meaning_within, rendering, said, Rendered}
+use Rattle.replay.specs.Rendering.{first_coded, first_escaped, first_byte, first_then, meaning, meaning_within, rendering, said, Rendered}
 
 abbrev Begins : List ℕ → Option (ℕ × List ℕ) → Type 0
 Begins raw o = MatchOption o (NoByte raw) (λ p. Byte raw p.0 p.1)
@@ -88,6 +87,3 @@ says_one a_position_get a_position_get = refl
 
 pub rendered : (c : Command) (bs : List ℕ) → bs ≡ rendering (said c) → Rendered c bs
 rendered c bs e = record { order = said c; says = says_said c; alone = λ o s. says_one s (says_said c); line = e }
-
-pub escaped_byte-coded : (b : ℕ) → (b ≡ 92 → ⊥) → (b ≡ 10 → ⊥) → (32 ≤ b → b < 127 → ⊥) → 92 ∷ 120 ∷ digit_char (b / 16) ∷ digit_char (b % 16) ∷ [] ≡ escaped_byte b
-escaped_byte-coded b p q r = grind (arith, nat_tests)
