@@ -1,10 +1,10 @@
 -- The canonical line of an order.
-use Rattle.std.specs.Prelude.{◌≡◌, ℕ, ◌/◌, ◌%◌, ◌^◌, ◌<◌, ◌≤◌, cond, ◌||◌, List, [], ◌∷◌, ◌++◌, decimal, Result, OnOk, ◌==◌, nat_le, nat_lt}
-use Rattle.std.specs.Char.{digit_char}
+use Rattle.std.specs.Prelude.{◌≡◌, ℕ, zero, suc, ◌+◌, ◌*◌, ◌/◌, ◌%◌, ◌^◌, ◌<◌, ◌≤◌, cond, ◌&&◌, ◌||◌, List, [], ◌∷◌, ◌++◌, length, Some, None, Option, decimal, ◌==◌, nat_le, nat_lt}
+use Rattle.std.specs.Char.{digit_char, digit_value}
 use Rattle.std.specs.List.{flat_map, AllByRecursion}
 use Rattle.replay.specs.declared.command.Command.{Command}
+use Rattle.replay.specs.declared.command.Command.TheVariants.{Measure, Admit, Limiter, LimiterAllow, Position, PositionAllow, PositionReset, PositionSet, PositionGet}
 use Rattle.replay.specs.Commands.{Says}
-use Rattle.script.specs.Escapes.{Means}
 use Rattle.replay.specs.Orders.{Order, measure, admit, limiter, limiter_allow, position, position_allow, position_reset, position_set, position_get, Part, word, number, rate, rule, text, parts, named}
 
 -- a backslash is doubled, a line end is `\n`, what is not printable ASCII is `\x` with two lower-case digits, all else stands as it is
@@ -42,17 +42,51 @@ InRange (position_reset n) = n < 2 ^ 64
 InRange (position_set n) = n < 2 ^ 64
 InRange position_get = Unit {0}
 
+-- what stands behind the backslash and the `x` of an escape: two digits, and the rest
+abbrev pub first_coded : List ℕ → Option (ℕ × List ℕ)
+first_coded (high ∷ low ∷ rest) = cond (nat_lt (digit_value high) 16 && nat_lt (digit_value low) 16) (Some (digit_value high * 16 + digit_value low, rest)) None
+first_coded (high ∷ []) = None
+first_coded [] = None
+
+-- what a backslash with a text behind it spells, and the rest
+abbrev pub first_escaped : List ℕ → Option (ℕ × List ℕ)
+first_escaped [] = None
+first_escaped (c ∷ rest) = cond (c == 92) (Some (92, rest)) (cond (c == 110) (Some (10, rest)) (cond (c == 120) (first_coded rest) None))
+
+-- the first byte that a text spells, and the rest
+abbrev pub first_byte : List ℕ → Option (ℕ × List ℕ)
+first_byte [] = None
+first_byte (b ∷ rest) = cond (b == 92) (first_escaped rest) (Some (b, rest))
+
+-- nothing, or the byte and what is made of the rest
+abbrev pub first_then : Option (ℕ × List ℕ) → (List ℕ → List ℕ) → List ℕ
+first_then None further = []
+first_then (Some p) further = p.0 ∷ further p.1
+
+-- the first n of the bytes that a text means
+abbrev pub meaning_within : ℕ → List ℕ → List ℕ
+meaning_within zero raw = []
+meaning_within (suc n) raw = first_then (first_byte raw) (meaning_within n)
+
+-- the bytes that a text means, up to its end or the first backslash that begins no escape
+abbrev pub meaning : List ℕ → List ℕ
+meaning raw = meaning_within (length raw) raw
+
+-- the order that a command says
+abbrev pub said : Command → Order
+said (Measure w u t) = measure w u (meaning t.now)
+said (Admit t) = admit (meaning t.now)
+said (Limiter r s) = limiter r s
+said (LimiterAllow n) = limiter_allow n
+said (Position n) = position n
+said (PositionAllow n) = position_allow n
+said (PositionReset n) = position_reset n
+said (PositionSet n) = position_set n
+said PositionGet = position_get
+
 -- the bytes are the canonical line of what the command says
 pub record Rendered (c : Command) (bs : List ℕ) : Type 0 where
   pub order : Order
   pub says : Says c order
   pub alone : (o : Order) → Says c o → o ≡ order
   pub line : bs ≡ rendering order
-
--- from s to t, the command's line was appended
-abbrev pub Renders : {T E : Type 0} → Command → List ℕ → Result T E → List ℕ → Type 0
-Renders c s r t = OnOk r ((bs : List ℕ) × Rendered c bs × (t ≡ s ++ bs))
-
--- the same of a text behind a name
-abbrev pub RendersText : {T E : Type 0} → List ℕ → List ℕ → List ℕ → Result T E → List ℕ → Type 0
-RendersText name raw s r t = OnOk r ((bs : List ℕ) × Means raw bs × (t ≡ s ++ (name ++ escaped bs)))

@@ -1,80 +1,83 @@
 // The canonical line of a command.
-ghost use Rattle.std.specs.Prelude.{◌≡◌, ◌<◌, [], ◌∷◌, ◌++◌, IfOk, codes, decimal};
-ghost use Rattle.std.specs.Char.{digit_char};
-ghost use Rattle.trace.specs.Appends.{Appends};
+ghost use Rattle.std.specs.Prelude.{IfOk, Some};
 ghost use Rattle.replay.specs.Orders.{named};
-ghost use Rattle.replay.specs.Rendering.{escaped_byte, Rendered, Renders, RendersText};
+ghost use Rattle.replay.specs.Rendering.{escaped, escaped_byte, meaning, rendering, said, Rendered};
 
 use crate::command::{Command, Rule};
 use script::escape::next_byte;
 use std::alloc::{AllocError, Global};
-use trace::put::{put, put_numbered, put_two};
+use std::fmt;
 
 // The line that spells what the command says: numbers without leading zeros, text with the escapes that it needs.
+#[tactic(auto, using(crate::proofs::Renders::rendered))]
 pub fn render(heap: Global, command: &Command<'_>) -> Result<Vec<u8>, AllocError>
     ensures { IfOk result (λ v. Rendered command.now v.items) }
 {
-    let mut out = Vec::new(heap);
-    put_command(&mut out, command)?;
-    Ok(out)
+    Ok(command.to_string(heap)?.into_bytes())
 }
 
-fn put_command(out: &mut Vec<u8>, command: &Command<'_>) -> Result<(), AllocError>
-    ensures { Renders command.now out.old.items result out.new.items }
-{
-    match *command {
-        Command::Measure { width, rule, text } => put_measure(out, width, rule, text),
-        Command::Admit { text } => put_text(out, b"admit ", text),
-        Command::Limiter { rate, start } => put_two(out, b"limiter ", u64::from(rate), b" ", start),
-        Command::LimiterAllow { now } => put_numbered(out, b"limiter allow ", now),
-        Command::Position { start } => put_numbered(out, b"position ", start),
-        Command::PositionAllow { now } => put_numbered(out, b"position allow ", now),
-        Command::PositionReset { now } => put_numbered(out, b"position reset ", now),
-        Command::PositionSet { position } => put_numbered(out, b"position set ", position),
-        Command::PositionGet => put(out, b"position get"),
+impl fmt::Display for Command<'_> {
+    ghost output = { λ command. Some (rendering (said command)) };
+
+    fn fmt<W: fmt::Write>(&self, f: &mut fmt::Formatter<W>) -> fmt::Result {
+        match *self {
+            Command::Measure { width, rule, text } => write!(
+                f,
+                "measure {width} {rule} {}",
+                Escaped(text)
+            ),
+            Command::Admit { text } => write!(f, "admit {}", Escaped(text)),
+            Command::Limiter { rate, start } => write!(f, "limiter {rate} {start}"),
+            Command::LimiterAllow { now } => write!(f, "limiter allow {now}"),
+            Command::Position { start } => write!(f, "position {start}"),
+            Command::PositionAllow { now } => write!(f, "position allow {now}"),
+            Command::PositionReset { now } => write!(f, "position reset {now}"),
+            Command::PositionSet { position } => write!(f, "position set {position}"),
+            Command::PositionGet => write!(f, "position get"),
+        }
     }
 }
 
-fn put_measure(out: &mut Vec<u8>, width: u64, rule: Rule, text: &[u8]) -> Result<(), AllocError>
-    ensures { RendersText (codes "measure " ++ (decimal width ++ (32 ∷ (named rule ++ 32 ∷ [])))) text.now out.old.items result out.new.items }
-{
-    put_numbered(out, b"measure ", width)?;
-    match rule {
-        Rule::Plain => put_text(out, b" plain ", text),
-        Rule::House => put_text(out, b" house ", text),
+impl fmt::Display for Rule {
+    ghost output = { λ rule. Some (named rule) };
+
+    fn fmt<W: fmt::Write>(&self, f: &mut fmt::Formatter<W>) -> fmt::Result {
+        match *self {
+            Rule::Plain => write!(f, "plain"),
+            Rule::House => write!(f, "house"),
+        }
     }
 }
 
-fn put_text(out: &mut Vec<u8>, name: &[u8], text: &[u8]) -> Result<(), AllocError>
-    ensures { RendersText name.now text.now out.old.items result out.new.items }
-{
-    put(out, name)?;
-    let mut rest = text;
-    while let Some((b, tail)) = next_byte(rest) {
-        put_byte(out, b)?;
-        rest = tail;
-    }
-    Ok(())
-}
+// A text as it stands in a line, written with no escape but those that its bytes need.
+#[derive(Clone, Copy)]
+struct Escaped<'a>(&'a [u8]);
 
-fn put_byte(out: &mut Vec<u8>, b: u8) -> Result<(), AllocError>
-    ensures { Appends (escaped_byte b) out.old.items result out.new.items }
-{
-    match b {
-        b'\\' => put(out, b"\\\\"),
-        b'\n' => put(out, b"\\n"),
-        b' '..=b'~' => put(out, &[b]),
-        _ => put(out, &[b'\\', b'x', hex_digit(b / 16), hex_digit(b % 16)]),
+impl fmt::Display for Escaped<'_> {
+    ghost output = { λ text. Some (escaped (meaning text.0.now)) };
+
+    fn fmt<W: fmt::Write>(&self, f: &mut fmt::Formatter<W>) -> fmt::Result {
+        let mut rest = self.0;
+        while let Some((b, tail)) = next_byte(rest) {
+            write!(f, "{}", EscapedByte(b))?;
+            rest = tail;
+        }
+        Ok(())
     }
 }
 
-fn hex_digit(digit: u8) -> u8
-    requires { digit < 16 }
-    ensures { result ≡ digit_char digit }
-{
-    if digit < 10 {
-        b'0' + digit
-    } else {
-        b'a' - 10 + digit
+#[derive(Clone, Copy)]
+struct EscapedByte(u8);
+
+impl fmt::Display for EscapedByte {
+    ghost output = { λ b. Some (escaped_byte b.0) };
+
+    fn fmt<W: fmt::Write>(&self, f: &mut fmt::Formatter<W>) -> fmt::Result {
+        match self.0 {
+            b'\\' => write!(f, "\\\\"),
+            b'\n' => write!(f, "\\n"),
+            b @ b' '..=b'~' => write!(f, "{}", char::from(b)),
+            b => write!(f, "\\x{b:02x}"),
+        }
     }
 }

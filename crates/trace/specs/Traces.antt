@@ -1,7 +1,12 @@
 -- The trace: each command's line as it stood, and its answer.
-use Rattle.std.specs.Prelude.{ℕ, List, [], ◌∷◌, ◌++◌, Some, None, codes, decimal, Option}
+use Rattle.std.specs.Prelude.{ℕ, Bool, true, false, List, [], ◌∷◌, ◌++◌, Some, None, codes, decimal, Option}
+use Rattle.refusal.specs.Numbers.{number}
 use Rattle.trace.specs.declared.answer.Answer.{Answer}
 use Rattle.trace.specs.declared.answer.Answer.TheVariants.{Ok, Refused, Metrics, Yes, No, Position}
+
+abbrev pub yes_or_no : Bool → Answer
+yes_or_no true = Yes
+yes_or_no false = No
 
 abbrev pub place : Option ℕ → List ℕ
 place None = []
@@ -9,7 +14,7 @@ place (Some k) = codes " at " ++ decimal k
 
 abbrev pub shown : Answer → List ℕ
 shown Ok = codes "ok"
-shown (Refused n at) = codes "refused " ++ (decimal n ++ place at)
+shown (Refused refusal at) = codes "refused " ++ (decimal (number refusal) ++ place at)
 shown (Metrics rows column) = codes "rows " ++ (decimal rows ++ (codes " column " ++ decimal column))
 shown Yes = codes "yes"
 shown No = codes "no"
