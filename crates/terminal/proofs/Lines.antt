@@ -9,7 +9,7 @@ use Rattle.refusal.specs.Numbers.{code}
 use Rattle.text.specs.Texts.{characters}
 use Rattle.terminal.specs.Screen.{Page, Screen, Sound}
 use Rattle.terminal.specs.Steps.{Answered, TermLaws}
-use Rattle.terminal.specs.Operations.{Op, Write, below, scrolled, next_row, roomy, celled, inked, written}
+use Rattle.terminal.specs.Operations.{Op, write, below, scrolled, next_row, roomy, celled, inked, written}
 use Rattle.terminal.specs.Rows.{glyph, glyphs, laid, ShowsMeasured}
 
 set_here : (xs : List ℕ) (x v : ℕ) (ys : List ℕ) (i : ℕ) → length xs ≡ i → set (xs ++ (x ∷ ys)) i v ≡ xs ++ (v ∷ ys)
@@ -162,7 +162,7 @@ measured_rows xs s t sound is m k a =
 
 -- so does every terminal
 pub shows_measured : {T A : Type 0} {meaning : T → Screen} {funds : T → Option ℕ} {steps : Op → T → T → Type 0} → TermLaws meaning funds steps
-    → {o : Op} {s t : T} {r : Result A Refusal} → Answered funds steps o s r t → (text : List ℕ) → o ≡ Write text → code r ≡ 0 → ShowsMeasured (characters text) (meaning s) (meaning t)
+    → {o : Op} {s t : T} {r : Result A Refusal} → Answered funds steps o s r t → (text : List ℕ) → o ≡ write text → code r ≡ 0 → ShowsMeasured (characters text) (meaning s) (meaning t)
 shows_measured {meaning = meaning} {funds} {steps} laws {o} {s} {t} h text e ok =
     let did = subst (λ x. steps x s t) e (h.done (sym h.number ∙ ok)) in
-    measured_rows (characters text) (meaning s) (meaning t) (laws.sound s) (ap (λ x. x.page) (laws.effects (Write text) s t did))
+    measured_rows (characters text) (meaning s) (meaning t) (laws.sound s) (ap (λ x. x.page) (laws.effects (write text) s t did))
