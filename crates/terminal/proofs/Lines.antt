@@ -1,6 +1,7 @@
 -- Writing a line on blank rows. Assumes nothing.
 use Rattle.std.proofs.Common.{◌≡◌, ℕ, zero, suc, ◌+◌, ◌-◌, ◌*◌, ◌<◌, ◌≤◌, cond, List, [], ◌∷◌, ◌++◌, length, set, replicate, Option, Result, sym, refl, ap, ◌∙◌, subst, append_assoc, append-nil, arith, length-append, lt-ltb}
-use lib.ListN.{length-replicate, replicate-append-replicate}
+use Rattle.std.proofs.lemmas.List.{length-replicate, replicate-append-replicate, set_at}
+use Rattle.std.proofs.lemmas.List.Sums.{fold-append}
 use Rattle.std.proofs.lemmas.Bool.{le-ltb}
 use Rattle.text.specs.Width.{Rule}
 use Rattle.text.specs.Rows.{span, Rows, last, wrap, join, final}
@@ -11,12 +12,6 @@ use Rattle.terminal.specs.Screen.{Page, Screen, Sound}
 use Rattle.terminal.specs.Steps.{Answered, TermLaws}
 use Rattle.terminal.specs.Operations.{Op, write, below, scrolled, next_row, roomy, celled, inked, written}
 use Rattle.terminal.specs.Rows.{glyph, glyphs, laid, ShowsMeasured}
-
-set_here : (xs : List ℕ) (x v : ℕ) (ys : List ℕ) (i : ℕ) → length xs ≡ i → set (xs ++ (x ∷ ys)) i v ≡ xs ++ (v ∷ ys)
-set_here [] x v ys zero e = refl
-set_here [] x v ys (suc i) e = absurd (omega arith)
-set_here (z ∷ xs) x v ys zero e = absurd (omega arith)
-set_here (z ∷ xs) x v ys (suc i) e = ap (λ l. z ∷ l) (set_here xs x v ys i (omega arith))
 
 -- the cells `before` stand before the cursor, n blank ones from it on, and `under` behind them
 record Stands (W : ℕ) (before : List ℕ) (n : ℕ) (under : List ℕ) (p : Page) : Type 0 where
@@ -32,7 +27,7 @@ regroup {W} {before} {other} {n} {under} {p} e h = subst (λ b. Stands W b n und
 
 one_cell : (W : ℕ) (before : List ℕ) (n : ℕ) (under : List ℕ) (p : Page) (v : ℕ) → Stands W before (suc n) under p → Stands W (before ++ (v ∷ [])) n under (celled W v p)
 one_cell W before n under p v h = record {
-  cells = ap (λ cs. set cs (p.row * W + p.column) v) h.cells ∙ set_here before 32 v (replicate n 32 ++ under) (p.row * W + p.column) h.start ∙ sym (append_assoc before (v ∷ []) (replicate n 32 ++ under));
+  cells = ap (λ cs. set cs (p.row * W + p.column) v) h.cells ∙ set_at before 32 (replicate n 32 ++ under) v (p.row * W + p.column) h.start ∙ sym (append_assoc before (v ∷ []) (replicate n 32 ++ under));
   start = length-append before (v ∷ []) ∙ omega (arith, h.start);
 }
 
@@ -50,10 +45,6 @@ record Laid (W : ℕ) (u : ℕ → ℕ) (rows : List (List ℕ)) (above under : 
   cells : q.cells ≡ above ++ (laid W u rows ++ under)
   row : q.row + 1 ≡ r + length rows
   column : q.column ≡ span u (final rows)
-
-written-++ : (W H : ℕ) (u : ℕ → ℕ) (xs ys : List ℕ) (p : Page) → written W H u (xs ++ ys) p ≡ written W H u ys (written W H u xs p)
-written-++ W H u [] ys p = refl
-written-++ W H u (c ∷ xs) ys p = written-++ W H u xs ys (inked W H (u c) c p)
 
 regrouped : (above row blanks under : List ℕ) → (above ++ row) ++ (blanks ++ under) ≡ above ++ (((row ++ blanks) ++ []) ++ under)
 regrouped above row blanks under = simp (append_assoc, append-nil)
@@ -138,7 +129,7 @@ module _ (W H : ℕ) where
           } in
           let more = rows_written rest on filled under (below q) refl (omega (arith, low, w.row)) stands in
           let same : written W H u (join (row ∷ rest)) p ≡ written W H u (join rest) (below q) =
-          written-++ W H u row (join rest) p ∙ ap (written W H u (next ++ join rows)) (wraps_on c q (omega (arith, fit, first, w.column)) (omega (arith, over, first, w.column)) (omega (arith, low, w.row))) in
+          fold-append (λ q d. inked W H (u d) d q) p row (join rest) ∙ ap (written W H u (next ++ join rows)) (wraps_on c q (omega (arith, fit, first, w.column)) (omega (arith, over, first, w.column)) (omega (arith, low, w.row))) in
           subst (Laid W u (row ∷ rest) above under p.row) (sym same)
           (record {
             cells = more.cells ∙ append_assoc above (glyphs u row ++ replicate (W - s) 32) (laid W u rest ++ under) ∙ ap (λ l. above ++ l) (sym (append_assoc (glyphs u row ++ replicate (W - s) 32) (laid W u rest) under));

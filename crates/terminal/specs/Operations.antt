@@ -1,5 +1,6 @@
 -- The operations of a terminal: their bytes, and what they do to a page of W columns and H rows under the width rule u. Assumes nothing.
 use Rattle.std.specs.Prelude.{ℕ, zero, suc, ◌+◌, ◌-◌, ◌*◌, min, Bool, true, cond, List, [], ◌∷◌, ◌++◌, length, take, drop, replicate, decimal, ◌==◌, nat_lt, slice_set}
+use Rattle.std.specs.List.{fold, flat_map}
 use Rattle.text.specs.Rows.{wraps}
 use Rattle.text.specs.Texts.{admissible, characters}
 use Rattle.terminal.specs.Screen.{Page, Screen}
@@ -78,8 +79,7 @@ inked W H (suc zero) c p = celled W c (roomy W H 1 p)
 inked W H (suc (suc k)) c p = celled W 0 (celled W c (roomy W H 2 p))
 
 abbrev pub written : ℕ → ℕ → (ℕ → ℕ) → List ℕ → Page → Page
-written W H u [] p = p
-written W H u (c ∷ cs) p = written W H u cs (inked W H (u c) c p)
+written W H u cs p = fold (λ q c. inked W H (u c) c q) p cs
 
 abbrev pub returned : Page → Page
 returned p = record { cells = p.cells; row = p.row; column = 0 }
@@ -113,10 +113,8 @@ abbrev pub effect : Op → Screen → Screen
 effect o s = record { width = s.width; height = s.height; rule = s.rule; page = done s.width s.height s.rule o s.page }
 
 abbrev pub effects : List Op → Screen → Screen
-effects [] s = s
-effects (o ∷ os) s = effects os (effect o s)
+effects os s = fold (λ t o. effect o t) s os
 
 -- one after the other, the bytes of operations
 abbrev pub stream : List Op → List ℕ
-stream [] = []
-stream (o ∷ os) = bytes o ++ stream os
+stream os = flat_map bytes os
