@@ -1,6 +1,7 @@
 -- Writing a line on blank rows. Assumes nothing.
-use Rattle.std.proofs.Common.{◌≡◌, ℕ, zero, suc, ◌+◌, ◌-◌, ◌*◌, ◌<◌, ◌≤◌, cond, List, [], ◌∷◌, ◌++◌, length, set, replicate, Option, Result, sym, refl, ap, ◌∙◌, subst, append_assoc, append-nil, arith, length-append, lt-ltb}
-use lib.ListN.{length-replicate, replicate-append-replicate}
+use Rattle.std.proofs.Common.{◌≡◌, ℕ, zero, suc, ◌+◌, ◌-◌, ◌*◌, ◌<◌, ◌≤◌, List, [], ◌∷◌, ◌++◌, length, replicate, Option, Result, sym, refl, ap, ◌∙◌, subst, append_assoc, append-nil, arith, length-append, lt-ltb}
+use Rattle.std.proofs.lemmas.List.{length-replicate, replicate-append-replicate, set_at}
+use Rattle.std.proofs.lemmas.List.Sums.{fold-append}
 use Rattle.std.proofs.lemmas.Bool.{le-ltb}
 use Rattle.text.specs.Width.{Rule}
 use Rattle.text.specs.Rows.{span, Rows, last, wrap, join, final}
@@ -9,35 +10,23 @@ use Rattle.refusal.specs.Numbers.{code}
 use Rattle.text.specs.Texts.{characters}
 use Rattle.terminal.specs.Screen.{Page, Screen, Sound}
 use Rattle.terminal.specs.Steps.{Answered, TermLaws}
-use Rattle.terminal.specs.Operations.{Op, Write, below, scrolled, next_row, roomy, celled, inked, written}
+use Rattle.terminal.specs.Operations.{Op, write, below, roomy, celled, inked, written}
 use Rattle.terminal.specs.Rows.{glyph, glyphs, laid, ShowsMeasured}
-
-set_here : (xs : List ℕ) (x v : ℕ) (ys : List ℕ) (i : ℕ) → length xs ≡ i → set (xs ++ (x ∷ ys)) i v ≡ xs ++ (v ∷ ys)
-set_here [] x v ys zero e = refl
-set_here [] x v ys (suc i) e = absurd (omega arith)
-set_here (z ∷ xs) x v ys zero e = absurd (omega arith)
-set_here (z ∷ xs) x v ys (suc i) e = ap (λ l. z ∷ l) (set_here xs x v ys i (omega arith))
 
 -- the cells `before` stand before the cursor, n blank ones from it on, and `under` behind them
 record Stands (W : ℕ) (before : List ℕ) (n : ℕ) (under : List ℕ) (p : Page) : Type 0 where
   cells : p.cells ≡ before ++ (replicate n 32 ++ under)
   start : length before ≡ p.row * W + p.column
 
--- the same, with its blanks counted otherwise, or its cells before the cursor written otherwise
+-- the same, with its blanks counted otherwise
 recount : {W : ℕ} {before : List ℕ} {m n : ℕ} {under : List ℕ} {p : Page} → m ≡ n → Stands W before m under p → Stands W before n under p
 recount {W} {before} {m} {n} {under} {p} e h = subst (λ j. Stands W before j under p) e h
 
-regroup : {W : ℕ} {before other : List ℕ} {n : ℕ} {under : List ℕ} {p : Page} → before ≡ other → Stands W before n under p → Stands W other n under p
-regroup {W} {before} {other} {n} {under} {p} e h = subst (λ b. Stands W b n under p) e h
-
 one_cell : (W : ℕ) (before : List ℕ) (n : ℕ) (under : List ℕ) (p : Page) (v : ℕ) → Stands W before (suc n) under p → Stands W (before ++ (v ∷ [])) n under (celled W v p)
 one_cell W before n under p v h = record {
-  cells = ap (λ cs. set cs (p.row * W + p.column) v) h.cells ∙ set_here before 32 v (replicate n 32 ++ under) (p.row * W + p.column) h.start ∙ sym (append_assoc before (v ∷ []) (replicate n 32 ++ under));
+  cells = rw (h.cells, set_at before 32 (replicate n 32 ++ under) v _ h.start, append_assoc) refl;
   start = length-append before (v ∷ []) ∙ omega (arith, h.start);
 }
-
-fits_row : (W H k : ℕ) (p : Page) → p.column + k ≤ W → roomy W H k p ≡ p
-fits_row W H k p h = ap (λ v. cond v (next_row W H p) p) (le-ltb W (p.column + k) h)
 
 -- a page where a character was written in its row
 record Wrote (W : ℕ) (before : List ℕ) (n : ℕ) (under : List ℕ) (r c : ℕ) (q : Page) : Type 0 where
@@ -51,30 +40,18 @@ record Laid (W : ℕ) (u : ℕ → ℕ) (rows : List (List ℕ)) (above under : 
   row : q.row + 1 ≡ r + length rows
   column : q.column ≡ span u (final rows)
 
-written-++ : (W H : ℕ) (u : ℕ → ℕ) (xs ys : List ℕ) (p : Page) → written W H u (xs ++ ys) p ≡ written W H u ys (written W H u xs p)
-written-++ W H u [] ys p = refl
-written-++ W H u (c ∷ xs) ys p = written-++ W H u xs ys (inked W H (u c) c p)
-
-regrouped : (above row blanks under : List ℕ) → (above ++ row) ++ (blanks ++ under) ≡ above ++ (((row ++ blanks) ++ []) ++ under)
-regrouped above row blanks under = simp (append_assoc, append-nil)
-
 split_blanks : (above row : List ℕ) (a b : ℕ) (under : List ℕ) → (above ++ row) ++ (replicate (a + b) 32 ++ under) ≡ (above ++ (row ++ replicate a 32)) ++ (replicate b 32 ++ under)
 split_blanks above row a b under = ap (λ l. (above ++ row) ++ (l ++ under)) (sym (replicate-append-replicate a b 32)) ∙ simp append_assoc
-
-filled_length : (above row : List ℕ) (n : ℕ) → length (above ++ (row ++ replicate n 32)) ≡ length above + length row + n
-filled_length above row n = simp (length-append, length-replicate) (omega arith)
 
 module _ (W H : ℕ) where
   inked_in : (k c : ℕ) (before : List ℕ) (n : ℕ) (under : List ℕ) (p : Page) → k ≤ 2 → p.column + k ≤ W → Stands W before (k + n) under p
       → Wrote W (before ++ glyph k c) n under p.row (p.column + k) (inked W H k c p)
-  inked_in zero c before n under p two fit h = record { stands = regroup (sym (append-nil before)) (recount (omega arith) h); row = refl; column = omega arith }
+  inked_in zero c before n under p two fit h = rw append-nil (record { stands = recount (omega arith) h; row = refl; column = omega arith })
   inked_in (suc zero) c before n under p two fit h =
-      subst (Wrote W (before ++ (c ∷ [])) n under p.row (p.column + 1)) (ap (celled W c) (sym (fits_row W H 1 p fit)))
-      (record { stands = one_cell W before n under p c (recount (omega arith) h); row = refl; column = refl })
+      rw (le-ltb W (p.column + 1) fit) (record { stands = one_cell W before n under p c (recount (omega arith) h); row = refl; column = refl })
   inked_in (suc (suc zero)) c before n under p two fit h =
-      subst (Wrote W (before ++ (c ∷ 0 ∷ [])) n under p.row (p.column + 2)) (ap (λ m. celled W 0 (celled W c m)) (sym (fits_row W H 2 p fit)))
-      (record {
-        stands = regroup (append_assoc before (c ∷ []) (0 ∷ [])) (one_cell W (before ++ (c ∷ [])) n under (celled W c p) 0 (one_cell W before (suc n) under p c (recount (omega arith) h)));
+      rw (le-ltb W (p.column + 2) fit) (record {
+        stands = rw append_assoc at (one_cell W (before ++ (c ∷ [])) n under (celled W c p) 0 (one_cell W before (suc n) under p c (recount (omega arith) h)));
         row = refl;
         column = omega arith;
       })
@@ -84,7 +61,7 @@ module _ (W H : ℕ) where
     -- characters that the row has room for
     row_written : (xs : List ℕ) (before : List ℕ) (n : ℕ) (under : List ℕ) (p : Page) → p.column + span u xs ≤ W → Stands W before (span u xs + n) under p
         → Wrote W (before ++ glyphs u xs) n under p.row (p.column + span u xs) (written W H u xs p)
-    row_written [] before n under p fit h = record { stands = regroup (sym (append-nil before)) (recount (omega arith) h); row = refl; column = omega arith }
+    row_written [] before n under p fit h = rw append-nil (record { stands = recount (omega arith) h; row = refl; column = omega arith })
     row_written (c ∷ cs) before n under p fit h =
         let k = u c in
         let s = span u cs in
@@ -92,7 +69,7 @@ module _ (W H : ℕ) where
         let w = inked_in k c before (s + n) under p (rule.narrow c) (omega arith) (recount (omega arith) h) in
         let more = row_written cs (before ++ glyph k c) n under q (omega (arith, w.column)) w.stands in
         record {
-          stands = regroup (append_assoc before (glyph k c) (glyphs u cs)) more.stands;
+          stands = rw append_assoc at more.stands;
           row = more.row ∙ w.row;
           column = more.column ∙ omega (arith, w.column);
         }
@@ -100,9 +77,7 @@ module _ (W H : ℕ) where
     -- a character that does not fit begins the next row
     next_begun : (k : ℕ) (p : Page) → k ≤ W → W < p.column + k → p.row + 1 < H → roomy W H k p ≡ roomy W H k (below p)
     next_begun k p fit over more =
-        ap (λ v. cond v (next_row W H p) p) (lt-ltb W (p.column + k) over)
-        ∙ ap (λ v. cond v (below p) (scrolled W p)) (lt-ltb (p.row + 1) H more)
-        ∙ sym (fits_row W H k (below p) (omega arith))
+        rw (lt-ltb W (p.column + k) over, lt-ltb (p.row + 1) H more, le-ltb W (0 + k) (omega arith))
 
     module _ (two : 2 ≤ W) where
       wraps_on : (c : ℕ) (p : Page) → p.column ≤ W → W < p.column + u c → p.row + 1 < H → inked W H (u c) c p ≡ inked W H (u c) c (below p)
@@ -119,10 +94,8 @@ module _ (W H : ℕ) where
       rows_written _ (last row fit) above under p first low h =
           let s = span u row in
           let w = row_written row above (W - s) under p (omega (arith, fit, first)) (recount (omega (arith, fit)) h) in
-          let q = written W H u row p in
-          subst (λ xs. Laid W u (row ∷ []) above under p.row (written W H u xs p)) (sym (append-nil row))
-          (record {
-            cells = w.stands.cells ∙ regrouped above (glyphs u row) (replicate (W - s) 32) under;
+          rw (append-nil row) (record {
+            cells = w.stands.cells ∙ simp (append_assoc, append-nil);
             row = ap (λ n. n + 1) w.row;
             column = w.column ∙ omega (arith, first);
           })
@@ -134,14 +107,13 @@ module _ (W H : ℕ) where
           let filled : List ℕ = above ++ (glyphs u row ++ replicate (W - s) 32) in
           let stands : Stands W filled (length rest * W) under (below q) = record {
             cells = w.stands.cells ∙ split_blanks above (glyphs u row) (W - s) (length rest * W) under;
-            start = filled_length above (glyphs u row) (W - s) ∙ omega (arith, fit, first, w.row, w.column, w.stands.start, length-append above (glyphs u row));
+            start = simp (length-append, length-replicate) (omega (arith, fit, first, w.row, w.column, w.stands.start, length-append above (glyphs u row)));
           } in
           let more = rows_written rest on filled under (below q) refl (omega (arith, low, w.row)) stands in
           let same : written W H u (join (row ∷ rest)) p ≡ written W H u (join rest) (below q) =
-          written-++ W H u row (join rest) p ∙ ap (written W H u (next ++ join rows)) (wraps_on c q (omega (arith, fit, first, w.column)) (omega (arith, over, first, w.column)) (omega (arith, low, w.row))) in
-          subst (Laid W u (row ∷ rest) above under p.row) (sym same)
-          (record {
-            cells = more.cells ∙ append_assoc above (glyphs u row ++ replicate (W - s) 32) (laid W u rest ++ under) ∙ ap (λ l. above ++ l) (sym (append_assoc (glyphs u row ++ replicate (W - s) 32) (laid W u rest) under));
+          fold-append (λ q d. inked W H (u d) d q) p row (join rest) ∙ ap (written W H u (next ++ join rows)) (wraps_on c q (omega (arith, fit, first, w.column)) (omega (arith, over, first, w.column)) (omega (arith, low, w.row))) in
+          rw same (record {
+            cells = more.cells ∙ simp append_assoc;
             row = more.row ∙ omega (arith, w.row);
             column = more.column;
           })
@@ -162,7 +134,7 @@ measured_rows xs s t sound is m k a =
 
 -- so does every terminal
 pub shows_measured : {T A : Type 0} {meaning : T → Screen} {funds : T → Option ℕ} {steps : Op → T → T → Type 0} → TermLaws meaning funds steps
-    → {o : Op} {s t : T} {r : Result A Refusal} → Answered funds steps o s r t → (text : List ℕ) → o ≡ Write text → code r ≡ 0 → ShowsMeasured (characters text) (meaning s) (meaning t)
+    → {o : Op} {s t : T} {r : Result A Refusal} → Answered funds steps o s r t → (text : List ℕ) → o ≡ write text → code r ≡ 0 → ShowsMeasured (characters text) (meaning s) (meaning t)
 shows_measured {meaning = meaning} {funds} {steps} laws {o} {s} {t} h text e ok =
     let did = subst (λ x. steps x s t) e (h.done (sym h.number ∙ ok)) in
-    measured_rows (characters text) (meaning s) (meaning t) (laws.sound s) (ap (λ x. x.page) (laws.effects (Write text) s t did))
+    measured_rows (characters text) (meaning s) (meaning t) (laws.sound s) (ap (λ x. x.page) (laws.effects (write text) s t did))

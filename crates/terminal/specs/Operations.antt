@@ -1,30 +1,27 @@
 -- The operations of a terminal: their bytes, and what they do to a page of W columns and H rows under the width rule u. Assumes nothing.
 use Rattle.std.specs.Prelude.{ℕ, zero, suc, ◌+◌, ◌-◌, ◌*◌, min, Bool, true, cond, List, [], ◌∷◌, ◌++◌, length, take, drop, replicate, decimal, ◌==◌, nat_lt, slice_set}
+use Rattle.std.specs.List.{fold, flat_map}
 use Rattle.text.specs.Rows.{wraps}
 use Rattle.text.specs.Texts.{admissible, characters}
 use Rattle.terminal.specs.Screen.{Page, Screen}
-
-pub data Direction : Type 0 where
-  up : Direction
-  down : Direction
-  right : Direction
-  left : Direction
+use Rattle.terminal.specs.declared.operation.Direction.{Direction}
+use Rattle.terminal.specs.declared.operation.Direction.TheVariants.{Up, Down, Right, Left}
 
 pub data Op : Type 0 where
-  Move : Direction → ℕ → Op
-  ClearLine : Op
-  Write : List ℕ → Op
-  WriteReturn : Op
-  WriteLine : List ℕ → Op
-  Flush : Op
+  move : Direction → ℕ → Op
+  clear_line : Op
+  write : List ℕ → Op
+  write_return : Op
+  write_line : List ℕ → Op
+  flush : Op
 
 -- ---- bytes, by ECMA-48
 -- the final bytes of CUU, CUD, CUF, CUB
 abbrev pub letter : Direction → ℕ
-letter up = 65
-letter down = 66
-letter right = 67
-letter left = 68
+letter Up = 65
+letter Down = 66
+letter Right = 67
+letter Left = 68
 
 -- CSI, the number, the final byte
 abbrev pub move_sequence : Direction → ℕ → List ℕ
@@ -35,26 +32,26 @@ abbrev pub clear_sequence : List ℕ
 clear_sequence = 13 ∷ 27 ∷ 91 ∷ 50 ∷ 75 ∷ []
 
 abbrev pub bytes : Op → List ℕ
-bytes (Move d n) = cond (n == 0) [] (move_sequence d n)
-bytes ClearLine = clear_sequence
-bytes (Write text) = text
+bytes (move d n) = cond (n == 0) [] (move_sequence d n)
+bytes clear_line = clear_sequence
+bytes (write text) = text
 -- CR
-bytes WriteReturn = 13 ∷ []
+bytes write_return = 13 ∷ []
 -- the text, LF
-bytes (WriteLine text) = text ++ 10 ∷ []
-bytes Flush = []
+bytes (write_line text) = text ++ 10 ∷ []
+bytes flush = []
 
 abbrev pub cost : Op → ℕ
 cost o = length (bytes o)
 
 -- whether its text, if it has one, is admissible
 abbrev pub fine : Op → Bool
-fine (Move d n) = true
-fine ClearLine = true
-fine (Write text) = admissible text
-fine WriteReturn = true
-fine (WriteLine text) = admissible text
-fine Flush = true
+fine (move d n) = true
+fine clear_line = true
+fine (write text) = admissible text
+fine write_return = true
+fine (write_line text) = admissible text
+fine flush = true
 
 -- ---- effects
 abbrev pub below : Page → Page
@@ -82,8 +79,7 @@ inked W H (suc zero) c p = celled W c (roomy W H 1 p)
 inked W H (suc (suc k)) c p = celled W 0 (celled W c (roomy W H 2 p))
 
 abbrev pub written : ℕ → ℕ → (ℕ → ℕ) → List ℕ → Page → Page
-written W H u [] p = p
-written W H u (c ∷ cs) p = written W H u cs (inked W H (u c) c p)
+written W H u cs p = fold (λ q c. inked W H (u c) c q) p cs
 
 abbrev pub returned : Page → Page
 returned p = record { cells = p.cells; row = p.row; column = 0 }
@@ -100,27 +96,25 @@ abbrev pub off_edge : ℕ → ℕ → ℕ
 off_edge W c = min c (W - 1)
 
 abbrev pub moved : ℕ → ℕ → Direction → ℕ → Page → Page
-moved W H up n p = record { cells = p.cells; row = p.row - n; column = off_edge W p.column }
-moved W H down n p = record { cells = p.cells; row = min (p.row + n) (H - 1); column = off_edge W p.column }
-moved W H right n p = record { cells = p.cells; row = p.row; column = min (off_edge W p.column + n) (W - 1) }
-moved W H left n p = record { cells = p.cells; row = p.row; column = off_edge W p.column - n }
+moved W H Up n p = record { cells = p.cells; row = p.row - n; column = off_edge W p.column }
+moved W H Down n p = record { cells = p.cells; row = min (p.row + n) (H - 1); column = off_edge W p.column }
+moved W H Right n p = record { cells = p.cells; row = p.row; column = min (off_edge W p.column + n) (W - 1) }
+moved W H Left n p = record { cells = p.cells; row = p.row; column = off_edge W p.column - n }
 
 abbrev pub done : ℕ → ℕ → (ℕ → ℕ) → Op → Page → Page
-done W H u (Move d n) p = cond (n == 0) p (moved W H d n p)
-done W H u ClearLine p = cleared W p
-done W H u (Write text) p = written W H u (characters text) p
-done W H u WriteReturn p = returned p
-done W H u (WriteLine text) p = next_row W H (written W H u (characters text) p)
-done W H u Flush p = p
+done W H u (move d n) p = cond (n == 0) p (moved W H d n p)
+done W H u clear_line p = cleared W p
+done W H u (write text) p = written W H u (characters text) p
+done W H u write_return p = returned p
+done W H u (write_line text) p = next_row W H (written W H u (characters text) p)
+done W H u flush p = p
 
 abbrev pub effect : Op → Screen → Screen
 effect o s = record { width = s.width; height = s.height; rule = s.rule; page = done s.width s.height s.rule o s.page }
 
 abbrev pub effects : List Op → Screen → Screen
-effects [] s = s
-effects (o ∷ os) s = effects os (effect o s)
+effects os s = fold (λ t o. effect o t) s os
 
 -- one after the other, the bytes of operations
 abbrev pub stream : List Op → List ℕ
-stream [] = []
-stream (o ∷ os) = bytes o ++ stream os
+stream os = flat_map bytes os

@@ -1,5 +1,6 @@
 -- A line on blank rows: where writing and measure meet. Assumes nothing.
 use Rattle.std.specs.Prelude.{◌≡◌, ℕ, zero, suc, ◌+◌, ◌-◌, ◌*◌, ◌≤◌, List, [], ◌∷◌, ◌++◌, length, replicate}
+use Rattle.std.specs.List.{flat_map}
 use Rattle.text.specs.declared.metrics.Metrics.{Metrics}
 use Rattle.text.specs.Rows.{span, Measures}
 use Rattle.terminal.specs.Screen.{Page, Screen}
@@ -11,13 +12,11 @@ glyph (suc zero) c = c ∷ []
 glyph (suc (suc k)) c = c ∷ 0 ∷ []
 
 abbrev pub glyphs : (ℕ → ℕ) → List ℕ → List ℕ
-glyphs u [] = []
-glyphs u (c ∷ cs) = glyph (u c) c ++ glyphs u cs
+glyphs u cs = flat_map (λ c. glyph (u c) c) cs
 
 -- rows of W cells, each with its characters and blank behind them
 abbrev pub laid : ℕ → (ℕ → ℕ) → List (List ℕ) → List ℕ
-laid W u [] = []
-laid W u (row ∷ rows) = (glyphs u row ++ replicate (W - span u row) 32) ++ laid W u rows
+laid W u rows = flat_map (λ row. glyphs u row ++ replicate (W - span u row) 32) rows
 
 -- the cursor stands at the head of k blank rows
 pub record Ahead (W H k : ℕ) (p : Page) : Type 0 where

@@ -1,5 +1,7 @@
 -- What an operation of a terminal answers, what every terminal owes, and operations done in turn. Assumes nothing.
-use Rattle.std.specs.Prelude.{◌≡◌, ℕ, ◌-◌, ◌<◌, Bool, true, cond, List, [], ◌∷◌, Some, None, Option, Result, ◌==◌, nat_le}
+use Rattle.std.specs.Prelude.{◌≡◌, ℕ, ◌-◌, ◌<◌, Bool, true, cond, List, Some, None, Option, Result, ◌==◌, nat_le}
+use Rattle.std.specs.List.{FoldsTo}
+use Rattle.std.specs.Option.{option_map, option_map_or}
 use Rattle.refusal.specs.declared.Refusal.{Refusal}
 use Rattle.refusal.specs.Numbers.{code, beside}
 use Rattle.terminal.specs.Screen.{Screen, Sound}
@@ -7,12 +9,10 @@ use Rattle.terminal.specs.Operations.{Op, fine, cost, effect}
 
 -- ---- credit: a number of bytes, or None for unlimited
 abbrev pub covers : Option ℕ → ℕ → Bool
-covers None n = true
-covers (Some k) n = nat_le n k
+covers credit n = option_map_or (λ k. nat_le n k) credit true
 
 abbrev pub paid : Option ℕ → ℕ → Option ℕ
-paid None n = None
-paid (Some k) n = Some (k - n)
+paid credit n = option_map (λ k. k - n) credit
 
 -- the number of an operation's refusal, 0 for none
 abbrev pub verdict : Op → Option ℕ → ℕ
@@ -36,6 +36,5 @@ pub record TermLaws {T : Type 0} (meaning : T → Screen) (funds : T → Option 
   pub costs : (o : Op) (s t : T) → steps o s t → funds t ≡ paid (funds s) (cost o)
 
 -- ---- operations in turn
-pub data Follows {T : Type 0} (steps : Op → T → T → Type 0) : List Op → T → T → Type 0 where
-  stay : {s : T} → Follows steps [] s s
-  step : {o : Op} {os : List Op} {s m t : T} → steps o s m → Follows steps os m t → Follows steps (o ∷ os) s t
+abbrev pub Follows : {T : Type 0} → (Op → T → T → Type 0) → List Op → T → T → Type 0
+Follows steps os s t = FoldsTo (λ m o n. steps o m n) s os t

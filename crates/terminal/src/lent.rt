@@ -1,6 +1,7 @@
 // A terminal behind a reference is a terminal.
 ghost use Rattle.terminal.specs.Lent.{LentStep, lent_laws};
 
+use crate::operation::Operation;
 use crate::term_like::TermLike;
 use refusal::Refusal;
 
@@ -29,39 +30,7 @@ impl<'a, S: TermLike> TermLike for &'a mut S {
         (**self).credit()
     }
 
-    fn move_cursor_up(&mut self, n: usize) -> Result<(), Refusal> {
-        (**self).move_cursor_up(n)
-    }
-
-    fn move_cursor_down(&mut self, n: usize) -> Result<(), Refusal> {
-        (**self).move_cursor_down(n)
-    }
-
-    fn move_cursor_right(&mut self, n: usize) -> Result<(), Refusal> {
-        (**self).move_cursor_right(n)
-    }
-
-    fn move_cursor_left(&mut self, n: usize) -> Result<(), Refusal> {
-        (**self).move_cursor_left(n)
-    }
-
-    fn clear_line(&mut self) -> Result<(), Refusal> {
-        (**self).clear_line()
-    }
-
-    fn write_str(&mut self, text: &[u8]) -> Result<(), Refusal> {
-        (**self).write_str(text)
-    }
-
-    fn write_return(&mut self) -> Result<(), Refusal> {
-        (**self).write_return()
-    }
-
-    fn write_line(&mut self, text: &[u8]) -> Result<(), Refusal> {
-        (**self).write_line(text)
-    }
-
-    fn flush(&mut self) -> Result<(), Refusal> {
-        (**self).flush()
+    fn apply(&mut self, operation: Operation<'_>) -> Result<(), Refusal> {
+        (**self).apply(operation)
     }
 }
