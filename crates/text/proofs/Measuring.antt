@@ -56,5 +56,5 @@ line W u bs m rule h e is = subst (Line W u bs) (sym is) computed
 -- the outcome of a scan is that of the measure
 pub answered : (W : ℕ) (u : ℕ → ℕ) (bs : List ℕ) (r : Option Metrics) → Rule u → 2 ≤ W → W ≤ 512 → length bs ≤ 128 → MatchOption r (admissible bs ≡ false) (λ m. (admissible bs ≡ true) × (m ≡ measured W u bs))
     → Measured W u bs (ok_or r (NotAdmissible 0))
-answered W u bs None rule low high short refused = record { number = search (rules, nat_tests); place = search (rules, nat_tests); value = tt }
-answered W u bs (Some m) rule low high short (fine, is) = record { number = search (rules, nat_tests); place = search (rules, nat_tests); value = line W u bs m rule low fine is }
+answered W u bs None rule low high short refused = record { number = search (rules, nat_tests); place = search (rules, nat_tests); refused = search (rules, nat_tests); value = tt }
+answered W u bs (Some m) rule low high short (fine, is) = record { number = search (rules, nat_tests); place = search (rules, nat_tests); refused = search (rules, nat_tests); value = line W u bs m rule low fine is }
