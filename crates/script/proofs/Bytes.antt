@@ -1,8 +1,9 @@
 -- The spellings of a byte, by what stands at each place.
-use Rattle.std.proofs.Common.{◌≡◌, ℕ, ◌+◌, ◌-◌, ◌*◌, ◌<◌, cond, eqb, List, [], ◌∷◌, ◌++◌, length, get_or, take, drop, Decides, sym, refl, ap, ◌∙◌, subst, arith}
+use Rattle.std.proofs.Common.{◌≡◌, ℕ, ◌+◌, ◌-◌, ◌*◌, ◌<◌, cond, eqb, List, [], ◌∷◌, ◌++◌, length, get_or, take, drop, Some, None, Option, true, Decides, MatchOption, sym, refl, ap, ◌∙◌, subst, arith}
 use Rattle.std.specs.Char.{digit_value}
 use Rattle.std.proofs.lemmas.List.{take_rest, nil_from_length}
-use Rattle.std.proofs.lemmas.Bool.{ne_eqb, eq-eqb, eqb-true}
+use Rattle.std.specs.Option.{is_some}
+use Rattle.std.proofs.lemmas.Bool.{ne_eqb, eq-eqb, eqb-true, false≢true}
 use Rattle.script.specs.Escapes.{Hex, Byte, itself, backslash, newline, coded, NoByte, Spelt, none, more, Meant, WellFormed, Means}
 
 -- no escape stands behind a backslash
@@ -18,10 +19,6 @@ no_escape t p q r b rest (coded h l) = r (omega arith) refl h l
 pub itself_at : (s : List ℕ) → 0 < length s → (get_or s 0 0 ≡ 92 → ⊥) → Byte s (get_or s 0 0) (take (length s - 1) (drop 1 s))
 itself_at [] h ne = absurd (omega arith)
 itself_at (b ∷ s) h ne = simp take_rest (itself ne)
-
-pub behind_backslash : (P : List ℕ → Type 0) (s : List ℕ) → 0 < length s → get_or s 0 0 ≡ 92 → P (92 ∷ take (length s - 1) (drop 1 s)) → P s
-behind_backslash P [] h e p = absurd (omega arith)
-behind_backslash P (b ∷ s) h e p = subst (λ x. P (x ∷ s)) (sym e) (subst (λ l. P (92 ∷ l)) (take_rest (b ∷ s) 1) p)
 
 pub backslash_at : (t : List ℕ) → 0 < length t → get_or t 0 0 ≡ 92 → Byte (92 ∷ t) 92 (take (length t - 1) (drop 1 t))
 backslash_at [] h e = absurd (omega arith)
@@ -89,6 +86,11 @@ byte_less (itself h) = omega arith
 byte_less backslash = omega arith
 byte_less newline = omega arith
 byte_less (coded h l) = omega arith
+
+-- one call of the iterator over the bytes that a text spells
+pub spelt_on : {s bs t u : List ℕ} (r : Option ℕ) → is_some r ≡ true → Spelt s bs t → MatchOption r (NoByte t × (u ≡ t)) (λ b. Byte t b u) → (cs : List ℕ) × Spelt s cs u
+spelt_on None e m h = absurd (false≢true e)
+spelt_on {bs = bs} (Some b) e m h = (bs ++ b ∷ [], spelt_push m h)
 
 -- a text that is spelled up to where no byte follows is well formed where nothing is left
 pub well_formed_is : {s bs u : List ℕ} → Spelt s bs u → NoByte u → Decides (eqb (length u) 0) (WellFormed s)

@@ -6,11 +6,9 @@ ghost use Rattle.script.specs.Numbers.{Number, NoNumber};
 pub fn read_number(word: &[u8]) -> Option<u64>
     ensures { MatchOption result (NoNumber word.now) (λ n. Number word.now n) }
 {
-    let Ok(digits) = std::str::from_utf8(word) else {
-        return None;
-    };
-    if let [b'+', ..] = word {
+    let digits = std::str::from_utf8(word).ok()?;
+    if digits.starts_with('+') {
         return None;
     }
-    digits.parse::<u64>().ok()
+    digits.parse().ok()
 }

@@ -1,17 +1,19 @@
-use Rattle.std.proofs.Common.{[]}
+use Rattle.std.proofs.Common.{◌≡◌, [], None, arith}
 use Rattle.std.proofs.lemmas.Bool.Decides.{Decides-at}
+use Rattle.std.proofs.lemmas.Option.{MatchOption-at_none}
 use Rattle.script.specs.Escapes.{none}
-use Rattle.script.proofs.Bytes.{byte_less, spelt_push, well_formed_is}
+use Rattle.script.proofs.Bytes.{spelt_on, well_formed_is}
 use Rattle.script.proofs.escape.is_well_formed.Goals as goal
 
-pub loop-tail-init : goal.loop-tail-init
-loop-tail-init c = ([], none)
+pub loop-init : goal.loop-init
+loop-init c = ([], rw c.new-bytes.ensures none)
 
-pub loop-tail-smaller : goal.loop-tail-smaller
-loop-tail-smaller c = byte_less c.in-Some.ensures
-
-pub loop-tail-preserved : goal.loop-tail-preserved
-loop-tail-preserved c = (_, spelt_push c.loop-tail.invariant.1 c.in-Some.ensures)
+pub loop-preserved : goal.loop-preserved
+loop-preserved c = spelt_on c.next.result (cc) c.loop.invariant.1 c.next.ensures.steps
 
 pub returns : goal.returns
-returns c = Decides-at _ _ c.is_empty.ensures (well_formed_is c.loop-tail.invariant.1 c.in_default.ensures)
+returns c =
+    let end : c.next.result ≡ None = grind arith in
+    let none = MatchOption-at_none _ _ end c.next.ensures.steps in
+    let empty = rw (c.bytes.view_is, none.1) at c.is_empty.ensures in
+    Decides-at _ _ empty (well_formed_is c.loop.invariant.1 none.0)
