@@ -43,7 +43,7 @@ pub enum Command<'a> {
 }
 
 // Why a line is no command.
-#[derive(Clone, Copy)]
+#[derive(Clone, Copy, Debug, PartialEq, Eq)]
 pub enum Fault {
     Unknown,
     Unsupported,

@@ -1,5 +1,6 @@
--- One line of a script. Assumes nothing.
-use Rattle.std.proofs.Common.{◌≡◌, ℕ, List, [], ◌++◌, Some, None, Option, sym, refl, ap, ◌∙◌, arith}
+-- One line of a script.
+use Rattle.std.proofs.Common.{◌≡◌, ℕ, List, [], ◌++◌, Some, None, Option, Err, ok_or, sym, refl, ap, ◌∙◌, subst}
+use Rattle.std.proofs.lemmas.Option.{none-some}
 use Rattle.std.specs.Option.{option_map}
 use Rattle.trace.specs.declared.answer.Answer.{Answer}
 use Rattle.replay.specs.declared.command.Command.{Command}
@@ -8,7 +9,10 @@ use Rattle.script.specs.Escapes.{Means}
 use Rattle.replay.specs.Orders.{Order, measure, admit, limiter, limiter_allow, position, position_allow, position_reset, position_set, position_get}
 use Rattle.script.proofs.Bytes.{means_one}
 use Rattle.runner.specs.Answers.{State, answer, after, with_limiter, with_position}
-use Rattle.runner.specs.Runs.{written, said, Played, Missing}
+use Rattle.runner.specs.declared.stop.Halt.{Halt}
+use Rattle.runner.specs.declared.stop.Halt.TheVariants as halts
+use Rattle.runner.specs.Runs.{written, said, Played}
+use Rattle.runner.specs.Stops.{Halted}
 
 -- a command says what its text means
 said_is : {c : Command} {o : Order} (bs : List ℕ) → Says c o → Means (written c) bs → o ≡ said c bs
@@ -23,7 +27,11 @@ said_is bs a_position_set h = refl
 said_is bs a_position_get h = refl
 
 some_none : {X Y : Type 0} {x : X} → Some x ≡ None → Y
-some_none e = absurd (let z : ◌≡◌ {A = ℕ} 0 1 = cc in omega arith)
+some_none {x = x} e = absurd (none-some x (sym e))
+
+missing_is : (r : Option Answer) (h : Halt) → r ≡ None → Err h ≡ ok_or r halts.Missing → halts.Missing ≡ h
+missing_is None h e f = cc
+missing_is (Some a) h e f = some_none e
 
 none_mapped : {X Y : Type 0} (f : X → Y) (o : Option X) → option_map f o ≡ None → o ≡ None
 none_mapped f None e = refl
@@ -52,7 +60,8 @@ module _ (line bs ts : List ℕ) (c : Command) (s t : State) (r : Option Answer)
   pub played : (a : Answer) → r ≡ Some a → Played s line a t
   played a h = record { order = u.order; spelled = u.spelled; answered = ap (answer s) order_is ∙ sym p ∙ h; left = q ∙ ap (after s) (sym order_is) }
 
-  pub lacking : r ≡ None → Missing s line × (t ≡ s)
-  lacking h =
-      let n : answer s u.order ≡ None = ap (answer s) order_is ∙ sym p ∙ h in
-      (record { order = u.order; spelled = u.spelled; unanswered = n }, q ∙ ap (after s) (sym order_is) ∙ unanswered s u.order n)
+  -- no answer stops the run, as a limiter that is missing
+  pub lacking : (now : List ℕ) (h : Halt) → r ≡ None → Err h ≡ ok_or r halts.Missing → Halted s line t now now h
+  lacking now h none f =
+      let n : answer s u.order ≡ None = ap (answer s) order_is ∙ sym p ∙ none in
+      subst (Halted s line t now now) (missing_is r h none f) (record { order = u.order; spelled = u.spelled; unanswered = n }, q ∙ ap (after s) (sym order_is) ∙ unanswered s u.order n, refl)

@@ -1,4 +1,4 @@
--- A whole script, line by line. Assumes nothing.
+-- A whole script, line by line.
 use Rattle.std.proofs.Common.{◌≡◌, ℕ, suc, ◌+◌, ◌<◌, ◌≤◌, true, false, ◌⊎◌, List, [], ◌∷◌, ◌++◌, length, sym, refl, ap, ◌∙◌, subst, inl, inr, append_assoc, append-nil, add_assoc, arith, length-append}
 use Rattle.trace.specs.declared.answer.Answer.{Answer}
 use Rattle.trace.specs.declared.answer.Answer.TheVariants as answers
@@ -7,7 +7,8 @@ use Rattle.trace.specs.Traces.{traced}
 use Rattle.runner.specs.declared.stop.Halt.{Halt}
 use Rattle.runner.specs.declared.stop.Halt.TheVariants as halts
 use Rattle.runner.specs.Answers.{State, nothing}
-use Rattle.runner.specs.Runs.{Played, Tally, none, refusals, counted, Ending, complete, faulty, missing, below, Replayed, ended, skip, play, refuse, lack, Ran}
+use Rattle.runner.specs.declared.summary.Summary.{Summary}
+use Rattle.runner.specs.Runs.{Played, none, refusals, counted, Ending, complete, faulty, missing, below, Replayed, ended, skip, play, refuse, lack, Ran}
 use Rattle.runner.specs.Stops.{Halted, stopped}
 use Rattle.runner.specs.Tallies.{counted_in}
 
@@ -38,30 +39,30 @@ shift_more n complete = refl
 shift_more n (faulty m f) = ap (λ k. faulty k f) (let e : n + suc m ≡ n + 1 + m = omega arith in e)
 shift_more n (missing m) = ap missing (let e : n + suc m ≡ n + 1 + m = omega arith in e)
 
-abbrev plus : Tally → Tally → Tally
+abbrev plus : Summary → Summary → Summary
 plus j k = record { commands = j.commands + k.commands; refused = j.refused + k.refused }
 
-plus_none : (k : Tally) → plus none k ≡ k
+plus_none : (k : Summary) → plus none k ≡ k
 plus_none k = let c : 0 + k.commands ≡ k.commands = omega arith in let r : 0 + k.refused ≡ k.refused = omega arith in λ i. record { commands = c i; refused = r i }
 
-none_plus : (k : Tally) → plus k none ≡ k
+none_plus : (k : Summary) → plus k none ≡ k
 none_plus k = let c : k.commands + 0 ≡ k.commands = omega arith in let r : k.refused + 0 ≡ k.refused = omega arith in λ i. record { commands = c i; refused = r i }
 
-plus_more : (j k : Tally) (a : Answer) → plus j (counted a k) ≡ plus (counted_in j a) k
+plus_more : (j k : Summary) (a : Answer) → plus j (counted a k) ≡ plus (counted_in j a) k
 plus_more j k a =
     let c : j.commands + suc k.commands ≡ j.commands + 1 + k.commands = omega arith in
     let r : j.refused + (refusals a + k.refused) ≡ j.refused + refusals a + k.refused = sym (add_assoc j.refused (refusals a) k.refused) in
     λ i. record { commands = c i; refused = r i }
 
 -- what is left runs on as the whole does
-pub record Sofar (script before : List ℕ) (s : State) (rest now : List ℕ) (n : ℕ) (j : Tally) : Type 0 where
+pub record Sofar (script before : List ℕ) (s : State) (rest now : List ℕ) (n : ℕ) (j : Summary) : Type 0 where
   pub done : List ℕ
   pub put : now ≡ before ++ done
-  pub on : (trace : List ℕ) (k : Tally) (e : Ending) → Replayed s rest trace k e → Replayed nothing script (done ++ trace) (plus j k) (shift n e)
+  pub on : (trace : List ℕ) (k : Summary) (e : Ending) → Replayed s rest trace k e → Replayed nothing script (done ++ trace) (plus j k) (shift n e)
   pub room : n + length rest ≤ length script
   pub few : (j.commands ≤ n) × (j.refused ≤ n)
 
-pub first : (script before : List ℕ) (s : State) (j : Tally) → s ≡ nothing → j ≡ none → Sofar script before s script before 0 j
+pub first : (script before : List ℕ) (s : State) (j : Summary) → s ≡ nothing → j ≡ none → Sofar script before s script before 0 j
 first script before s j e f =
     subst (λ x. Sofar script before x script before 0 j) (sym e)
     (subst (λ y. Sofar script before nothing script before 0 y) (sym f)
@@ -81,7 +82,7 @@ few_refusals answers.Yes = omega arith
 few_refusals answers.No = omega arith
 few_refusals (answers.Position n) = omega arith
 
-module _ (script before : List ℕ) (s : State) (rest now : List ℕ) (n : ℕ) (j : Tally) (line tail : List ℕ) (h : Sofar script before s rest now n j) (l : Line rest line tail) where
+module _ (script before : List ℕ) (s : State) (rest now : List ℕ) (n : ℕ) (j : Summary) (line tail : List ℕ) (h : Sofar script before s rest now n j) (l : Line rest line tail) where
   pub skipped : Skipped line → Sofar script before s tail now (n + 1) j
   skipped k = record {
     done = h.done;
@@ -91,7 +92,7 @@ module _ (script before : List ℕ) (s : State) (rest now : List ℕ) (n : ℕ) 
     few = (omega (arith, h.few), omega (arith, h.few));
   }
 
-  pub answered : (Skipped line → ⊥) → (a : Answer) (t : State) (next : List ℕ) (i : Tally) → Played s line a t → next ≡ now ++ traced line a → i ≡ counted_in j a → Sofar script before t tail next (n + 1) i
+  pub answered : (Skipped line → ⊥) → (a : Answer) (t : State) (next : List ℕ) (i : Summary) → Played s line a t → next ≡ now ++ traced line a → i ≡ counted_in j a → Sofar script before t tail next (n + 1) i
   answered k a t next i p e c = subst (Sofar script before t tail next (n + 1)) (sym c) (record {
     done = h.done ++ traced line a;
     put = e ∙ ap (λ x. x ++ traced line a) h.put ∙ append_assoc before h.done (traced line a);
@@ -111,7 +112,7 @@ module _ (script before : List ℕ) (s : State) (rest now : List ℕ) (n : ℕ) 
   halts_at k halts.Missing t next (r, _, p) = (plus j none, ends (missing 1) next p (lack l k r))
   halts_at k halts.Memory t next g = record { more = h.done ++ g.more; put = g.put ∙ ap (λ x. x ++ g.more) h.put ∙ append_assoc before h.done g.more }
 
-pub finished : (script before : List ℕ) (s : State) (rest now : List ℕ) (n : ℕ) (j : Tally) → Sofar script before s rest now n j → length rest ≡ 0 → Ran script before now j complete
+pub finished : (script before : List ℕ) (s : State) (rest now : List ℕ) (n : ℕ) (j : Summary) → Sofar script before s rest now n j → length rest ≡ 0 → Ran script before now j complete
 finished script before s [] now n j h e = record {
   trace = h.done ++ [];
   replayed = subst (λ x. Replayed nothing script (h.done ++ []) x complete) (none_plus j) (h.on [] none complete (ended s));

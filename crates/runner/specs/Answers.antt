@@ -3,15 +3,17 @@ use Rattle.std.specs.Prelude.{ℕ, Bool, true, false, cond, Some, None, Option, 
 use Rattle.std.specs.Option.{option_map}
 use Rattle.text.specs.declared.metrics.Metrics.{Metrics}
 use Rattle.text.specs.Width.{plain, house}
-use Rattle.text.specs.Outcomes.{admission_number, measure_number, measured}
+use Rattle.refusal.specs.declared.Refusal.{Refusal}
+use Rattle.refusal.specs.declared.Refusal.TheVariants.{Rate}
+use Rattle.text.specs.Outcomes.{admission_refusal, measure_refusal, measured}
 use Rattle.limiter.specs.Ration as rations
 use Rattle.limiter.specs.Standing as standings
 use Rattle.trace.specs.declared.answer.Answer.{Answer}
 use Rattle.trace.specs.declared.answer.Answer.TheVariants as answers
+use Rattle.trace.specs.Traces.{yes_or_no}
 use Rattle.replay.specs.declared.command.Rule.{Rule}
 use Rattle.replay.specs.declared.command.Rule.TheVariants as rules
 use Rattle.replay.specs.Orders.{Order, measure, admit, limiter, limiter_allow, position, position_allow, position_reset, position_set, position_get}
-use Rattle.runner.specs.declared.rack.Rack.{Rack}
 
 abbrev pub cells : Rule → ℕ → ℕ
 cells rules.Plain = plain
@@ -22,34 +24,28 @@ pub record State : Type 0 where
   pub limiter : Option rations.Ration
   pub position : Option standings.Standing
 
-abbrev pub state : Rack → State
-state r = record { limiter = option_map rations.ration r.limiter; position = option_map standings.standing r.position }
-
 abbrev pub nothing : State
 nothing = record { limiter = None; position = None }
 
--- a refusal by its number alone
-abbrev pub refusal : ℕ → Answer
-refusal n = answers.Refused n None
+-- what a call answers that is declined by this refusal, or else done: a refusal is told by its number alone
+abbrev pub outcome : Option Refusal → Answer → Answer
+outcome None a = a
+outcome (Some e) a = answers.Refused e None
 
-abbrev pub plain_answer : ℕ → Answer
-plain_answer n = cond (n == 0) answers.Ok (refusal n)
+abbrev pub metrics_answer : Metrics → Answer
+metrics_answer m = answers.Metrics m.height m.last_line_width
 
-abbrev pub measure_answer : ℕ → Metrics → Answer
-measure_answer n m = cond (n == 0) (answers.Metrics m.height.0 m.last_line_width) (refusal n)
-
-abbrev pub said_yes : Bool → Answer
-said_yes true = answers.Yes
-said_yes false = answers.No
+abbrev pub limiter_refusal : ℕ → Option Refusal
+limiter_refusal rate = cond (rate == 0) (Some Rate) None
 
 -- None where the command needs a limiter that was not made
 abbrev pub answer : State → Order → Option Answer
-answer s (measure w u t) = Some (measure_answer (measure_number w t) (measured w (cells u) t))
-answer s (admit t) = Some (plain_answer (admission_number t))
-answer s (limiter r t0) = Some (plain_answer (cond (r == 0) 3 0))
-answer s (limiter_allow n) = option_map (λ l. said_yes (rations.grants l n)) s.limiter
+answer s (measure w u t) = Some (outcome (measure_refusal w t) (metrics_answer (measured w (cells u) t)))
+answer s (admit t) = Some (outcome (admission_refusal t) answers.Ok)
+answer s (limiter r t0) = Some (outcome (limiter_refusal r) answers.Ok)
+answer s (limiter_allow n) = option_map (λ l. yes_or_no (rations.grants l n)) s.limiter
 answer s (position n) = Some answers.Ok
-answer s (position_allow n) = option_map (λ p. said_yes (standings.grants p n)) s.position
+answer s (position_allow n) = option_map (λ p. yes_or_no (standings.grants p n)) s.position
 answer s (position_reset n) = option_map (λ p. answers.Ok) s.position
 answer s (position_set n) = option_map (λ p. answers.Ok) s.position
 answer s position_get = option_map (λ p. answers.Position p.pos) s.position

@@ -10,6 +10,7 @@ use Rattle.replay.specs.Grammar.{Spells}
 use Rattle.replay.specs.Orders.{Order, measure, admit, limiter, limiter_allow, position, position_allow, position_reset, position_set, position_get}
 use Rattle.script.specs.Scripts.{Line, Skipped}
 use Rattle.trace.specs.Traces.{traced}
+use Rattle.runner.specs.declared.summary.Summary.{Summary}
 use Rattle.runner.specs.Answers.{State, answer, after}
 
 -- the text of a command, as it stands in the line
@@ -50,11 +51,7 @@ pub record Missing (s : State) (line : List ℕ) : Type 0 where
   pub unanswered : answer s order ≡ None
 
 -- how often was answered, and how often by a refusal
-pub record Tally : Type 0 where
-  pub commands : ℕ
-  pub refused : ℕ
-
-abbrev pub none : Tally
+abbrev pub none : Summary
 none = record { commands = 0; refused = 0 }
 
 abbrev pub refusals : Answer → ℕ
@@ -65,7 +62,7 @@ refusals answers.Yes = 0
 refusals answers.No = 0
 refusals (answers.Position n) = 0
 
-abbrev pub counted : Answer → Tally → Tally
+abbrev pub counted : Answer → Summary → Summary
 counted a k = record { commands = suc k.commands; refused = refusals a + k.refused }
 
 -- how a run ends: with its script, or at a line, counted from 1
@@ -80,16 +77,16 @@ below (faulty n f) = faulty (suc n) f
 below (missing n) = missing (suc n)
 
 -- from the state s the script gives this trace and this tally, and ends so
-pub data Replayed : State → List ℕ → List ℕ → Tally → Ending → Type 0 where
+pub data Replayed : State → List ℕ → List ℕ → Summary → Ending → Type 0 where
   ended : (s : State) → Replayed s [] [] none complete
-  skip : {s : State} {script line rest trace : List ℕ} {k : Tally} {e : Ending} → Line script line rest → Skipped line → Replayed s rest trace k e → Replayed s script trace k (below e)
-  play : {s t : State} {script line rest trace : List ℕ} {a : Answer} {k : Tally} {e : Ending} → Line script line rest → (Skipped line → ⊥) → Played s line a t → Replayed t rest trace k e
+  skip : {s : State} {script line rest trace : List ℕ} {k : Summary} {e : Ending} → Line script line rest → Skipped line → Replayed s rest trace k e → Replayed s script trace k (below e)
+  play : {s t : State} {script line rest trace : List ℕ} {a : Answer} {k : Summary} {e : Ending} → Line script line rest → (Skipped line → ⊥) → Played s line a t → Replayed t rest trace k e
       → Replayed s script (traced line a ++ trace) (counted a k) (below e)
   refuse : {s : State} {script line rest : List ℕ} {f : Fault} → Line script line rest → (Skipped line → ⊥) → Refused line f → Replayed s script [] none (faulty 1 f)
   lack : {s : State} {script line rest : List ℕ} → Line script line rest → (Skipped line → ⊥) → Missing s line → Replayed s script [] none (missing 1)
 
 -- the trace of the whole run was appended to what stood
-pub record Ran (script before now : List ℕ) (k : Tally) (e : Ending) : Type 0 where
+pub record Ran (script before now : List ℕ) (k : Summary) (e : Ending) : Type 0 where
   pub trace : List ℕ
   pub replayed : Replayed (record { limiter = None; position = None }) script trace k e
   pub put : now ≡ before ++ trace

@@ -1,11 +1,13 @@
 // How often a run was answered.
-ghost use Rattle.std.specs.Prelude.{◌≡◌, ◌+◌, ◌-◌, ◌^◌, ◌<◌};
+ghost use Rattle.std.specs.Prelude.{◌≡◌, ◌+◌, ◌-◌, ◌^◌, ◌<◌, Some};
+ghost use Rattle.runner.specs.Reasons.{summary_shown};
 ghost use Rattle.runner.specs.Runs.{none};
-ghost use Rattle.runner.specs.Tallies.{tally, counted_in};
+ghost use Rattle.runner.specs.Tallies.{counted_in};
 
+use std::fmt;
 use trace::answer::Answer;
 
-#[derive(Clone, Copy)]
+#[derive(Clone, Copy, Debug, PartialEq, Eq)]
 pub struct Summary {
     pub commands: u64,
     pub refused: u64,
@@ -13,7 +15,7 @@ pub struct Summary {
 
 impl Summary {
     pub fn new() -> Summary
-        ensures { tally result ≡ none }
+        ensures { result ≡ none }
     {
         Summary {
             commands: 0,
@@ -24,7 +26,7 @@ impl Summary {
     // One answer more.
     pub(crate) fn count(self, answer: &Answer) -> Summary
         requires { (self.commands < 2 ^ 64 - 1) × (self.refused < 2 ^ 64 - 1) }
-        ensures { tally result ≡ counted_in (tally self) answer.now }
+        ensures { result ≡ counted_in self answer.now }
     {
         let refused = match answer {
             Answer::Refused { .. } => self.refused + 1,
@@ -34,5 +36,13 @@ impl Summary {
             commands: self.commands + 1,
             refused,
         }
+    }
+}
+
+impl fmt::Display for Summary {
+    ghost output = { λ summary. Some (summary_shown summary) };
+
+    fn fmt<W: fmt::Write>(&self, f: &mut fmt::Formatter<W>) -> fmt::Result {
+        write!(f, "commands {}\nrefused {}", self.commands, self.refused)
     }
 }
