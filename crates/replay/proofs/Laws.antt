@@ -76,13 +76,13 @@ spelled_one {w = w} s t e = spelled_is s ∙ ap (λ k. part_of k w) e ∙ sym (s
 
 -- a text is no word
 no_text_word : {p : Part} {w : List ℕ} → Spelled p w → kind p ≡ a_text → ⊥
-no_text_word (as_is h) e = let z : ◌≡◌ {A = ℕ} 0 1 = cc in omega arith
-no_text_word (as_number h) e = let z : ◌≡◌ {A = ℕ} 0 1 = cc in omega arith
-no_text_word (as_rate h b) e = let z : ◌≡◌ {A = ℕ} 0 1 = cc in omega arith
-no_text_word (as_rule h) e = let z : ◌≡◌ {A = ℕ} 0 1 = cc in omega arith
+no_text_word (as_is h) e = cc
+no_text_word (as_number h) e = cc
+no_text_word (as_rate h b) e = cc
+no_text_word (as_rule h) e = cc
 
 absurd_kinds : {A : Type 0} {k : Kind} {ks : List Kind} → [] ≡ k ∷ ks → A
-absurd_kinds e = absurd (let z : ◌≡◌ {A = ℕ} 0 1 = cc in omega arith)
+absurd_kinds e = cc
 
 head_kind : {j k : Kind} {js ks : List Kind} → j ∷ js ≡ k ∷ ks → j ≡ k
 head_kind e = cc
@@ -107,10 +107,10 @@ wrong_spelled (as_rate h b) (above m g) = omega (arith, h.is, m.is)
 wrong_spelled (as_rule e) (no_rule n) = n _ e
 
 wrong_text : {k : Kind} {w : List ℕ} {f : Fault} → Wrong k w f → k ≡ a_text → ⊥
-wrong_text (no_number n) e = let z : ◌≡◌ {A = ℕ} 0 1 = cc in omega arith
-wrong_text (no_rate n) e = let z : ◌≡◌ {A = ℕ} 0 1 = cc in omega arith
-wrong_text (above m g) e = let z : ◌≡◌ {A = ℕ} 0 1 = cc in omega arith
-wrong_text (no_rule n) e = let z : ◌≡◌ {A = ℕ} 0 1 = cc in omega arith
+wrong_text (no_number n) e = cc
+wrong_text (no_rate n) e = cc
+wrong_text (above m g) e = cc
+wrong_text (no_rule n) e = cc
 
 -- what fails at its kinds spells nothing of those kinds
 pub stopped : {ks : List Kind} {ps : List Part} {rest : Option (List ℕ)} {f : Fault} → Stops ks rest f → Phrase ps rest → kinds ps ≡ ks → ⊥
@@ -193,7 +193,7 @@ opened : {x : List ℕ} {ps : List Part} {line : List ℕ} → Phrase (word x �
 opened (next s p) = p
 
 pub faulty_spells : {line : List ℕ} {f : Fault} → Faulty line f → (o : Order) → Spells line o → ⊥
-faulty_spells (no_command e) o s = let d = due_is o s in absurd (grind arith)
+faulty_spells (no_command e) o s = let d = due_is o s in cc
 faulty_spells {line} {f} (argument {fm = fm} e st) o s =
     let same : form o ≡ fm = same_form (sym (due_is o s) ∙ e) in
     stopped st (opened (subst (λ ps. Phrase ps (Some line)) (parted o).opens s)) ((parted o).takes ∙ ap arguments same)

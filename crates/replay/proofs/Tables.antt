@@ -30,7 +30,7 @@ pick_none w (row ∷ rows) h = let t = other_word w row.0 h.0 in simp t (pick_no
 
 -- a word that stands in one
 pick_some : {X : Type 0} (name : X → List ℕ) (w : List ℕ) (rows : List (List ℕ × X)) (x : X) → AllByRecursion (λ (row : List ℕ × X). row.0 ≡ name row.1) rows → pick w rows ≡ Some x → w ≡ name x
-pick_some name w [] x h e = absurd (grind arith)
+pick_some name w [] x h e = cc
 pick_some name w (row ∷ rows) x h e =
     ⊎_elim (λ (t : bytes_eq w row.0 ≡ true). let same : row.1 ≡ x = grind (arith, t, e) in (bytes_eq-Decides w row.0).0 t ∙ h.0 ∙ ap name same)
     (λ (t : bytes_eq w row.0 ≡ false). pick_some name w rows x h.1 (simp t at e))
@@ -52,8 +52,8 @@ pub verb_is : (w : List ℕ) (v : Verb) → verb w ≡ Ok v → w ≡ verb_word 
 verb_is w v e = pick_some verb_word w verbs v (refl, (refl, (refl, (refl, tt)))) (some_of (pick w verbs) _ e)
   where
     some_of : (o : Option Verb) (f : Fault) → ok_or o f ≡ Ok v → o ≡ Some v
-    some_of None f e = absurd (grind arith)
-    some_of (Some u) f e = grind arith
+    some_of None f e = cc
+    some_of (Some u) f e = cc
 
 pub choice_is : (w : List ℕ) (k : Choice) → choice w ≡ Some k → w ≡ choice_word k
 choice_is w k e = pick_some choice_word w choices k (refl, (refl, (refl, (refl, tt)))) e
@@ -66,6 +66,6 @@ pub reads_rule : (w : List ℕ) (o : Option Rule) → o ≡ pick w rules_by_name
 reads_rule w None e = (refl, λ u d. absurd (other u d))
   where
     other : (u : Rule) → w ≡ named u → ⊥
-    other Plain d = let f : None ≡ Some Plain = e ∙ simp d in grind arith
-    other House d = let f : None ≡ Some House = e ∙ simp d in grind arith
+    other Plain d = let f : None ≡ Some Plain = e ∙ simp d in cc
+    other House d = let f : None ≡ Some House = e ∙ simp d in cc
 reads_rule w (Some u) e = pick_some named w rules_by_name u (refl, (refl, tt)) (sym e)

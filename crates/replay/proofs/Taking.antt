@@ -19,15 +19,6 @@ use Rattle.replay.specs.Forms.{Kind, a_number, a_rate, a_rule, a_text, kind}
 use Rattle.replay.specs.Grammar.{Spelled, as_number, as_rate, as_rule, Phrase, next, raw}
 use Rattle.replay.specs.Orders.{Part, number, rate, rule}
 
-pub number_is_word : a_number ≡ a_text → ⊥
-number_is_word e = let z : ◌≡◌ {A = ℕ} 0 1 = cc in omega arith
-
-rate_is_word : a_rate ≡ a_text → ⊥
-rate_is_word e = let z : ◌≡◌ {A = ℕ} 0 1 = cc in omega arith
-
-pub rule_is_word : a_rule ≡ a_text → ⊥
-rule_is_word e = let z : ◌≡◌ {A = ℕ} 0 1 = cc in omega arith
-
 abbrev Taken : Option (List ℕ) → List ℕ → Option (List ℕ) → Type 0
 Taken rest w left = (line : List ℕ) × (rest ≡ Some line) × Cut 32 line w left
 
@@ -67,7 +58,7 @@ rate_cases {n} {rest} {left} {E} (Ok m) t h = let p = OkIff-at_ok {E = E} (Ok m)
 rate_cases {n} (Err e) t h = above_rate t (OkIff-at_err (Err e) (n < 256) n e h refl)
 
 pub no_rate_there : {rest : Option (List ℕ)} {f : Fault} → Halts a_number rest f → Halts a_rate rest f
-no_rate_there (no_word h) = no_word rate_is_word
+no_rate_there (no_word h) = no_word (λ e. cc)
 no_rate_there (wrong_word (no_number h)) = wrong_word (no_rate h)
 
 pub on : {p : Part} {ps : List Part} {rest left : Option (List ℕ)} → Took p rest left → Phrase ps left → Phrase (p ∷ ps) rest

@@ -27,17 +27,19 @@ pub fn parse(line: &[u8]) -> Result<Command<'_>, Fault>
 fn measure(mut words: Words<'_>) -> Result<Command<'_>, Fault>
     ensures { Reads measure_form words.entry result }
 {
-    let width = words.number()?;
-    let rule = words.rule()?;
-    let text = words.text()?;
-    Ok(Command::Measure { width, rule, text })
+    Ok(Command::Measure {
+        width: words.number()?,
+        rule: words.rule()?,
+        text: words.text()?,
+    })
 }
 
 fn admit(words: Words<'_>) -> Result<Command<'_>, Fault>
     ensures { Reads admit_form words.entry result }
 {
-    let text = words.text()?;
-    Ok(Command::Admit { text })
+    Ok(Command::Admit {
+        text: words.text()?,
+    })
 }
 
 fn limiter(mut words: Words<'_>) -> Result<Command<'_>, Fault>
@@ -45,35 +47,35 @@ fn limiter(mut words: Words<'_>) -> Result<Command<'_>, Fault>
 {
     if let Some(Choice::Allow) = words.choice() {
         words.skip();
-        let now = words.last_number()?;
-        return Ok(Command::LimiterAllow { now });
+        return Ok(Command::LimiterAllow {
+            now: words.last_number()?,
+        });
     }
-    let rate = words.rate()?;
-    let start = words.last_number()?;
-    Ok(Command::Limiter { rate, start })
+    Ok(Command::Limiter {
+        rate: words.rate()?,
+        start: words.last_number()?,
+    })
 }
 
 fn position(mut words: Words<'_>) -> Result<Command<'_>, Fault>
     ensures { Reads (position_form_of (choice (head words.entry))) words.entry result }
 {
     let Some(choice) = words.choice() else {
-        let start = words.last_number()?;
-        return Ok(Command::Position { start });
+        return Ok(Command::Position {
+            start: words.last_number()?,
+        });
     };
     words.skip();
     match choice {
-        Choice::Allow => {
-            let now = words.last_number()?;
-            Ok(Command::PositionAllow { now })
-        }
-        Choice::Reset => {
-            let now = words.last_number()?;
-            Ok(Command::PositionReset { now })
-        }
-        Choice::Set => {
-            let position = words.last_number()?;
-            Ok(Command::PositionSet { position })
-        }
+        Choice::Allow => Ok(Command::PositionAllow {
+            now: words.last_number()?,
+        }),
+        Choice::Reset => Ok(Command::PositionReset {
+            now: words.last_number()?,
+        }),
+        Choice::Set => Ok(Command::PositionSet {
+            position: words.last_number()?,
+        }),
         Choice::Get => {
             words.end()?;
             Ok(Command::PositionGet)
