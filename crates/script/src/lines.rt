@@ -68,5 +68,5 @@ impl<'a> Iterator for Lines<'a> {
 pub fn is_skipped(line: &[u8]) -> bool
     ensures { Decides result (Skipped line.now) }
 {
-    line.first() == Some(&b'#') || line.iter().all(|b| *b == b' ')
+    line.starts_with(b"#") || line.iter().all(|b| *b == b' ')
 }
