@@ -1,6 +1,7 @@
 -- The words that a command begins with, and those that name a width rule.
-use Rattle.std.specs.Prelude.{◌≡◌, ℕ, Bool, false, cond, ◌||◌, List, [], ◌∷◌, map, Some, None, codes, Option, Result, MatchResult, ◌≢◌}
+use Rattle.std.specs.Prelude.{◌≡◌, ℕ, cond, List, [], ◌∷◌, map, Some, None, codes, Option, Result, MatchResult, ◌≢◌}
 use Rattle.std.specs.Borrow.{Bor}
+use Rattle.std.specs.List.{list_any}
 use Rattle.std.specs.Option.{ok_or}
 use Rattle.std.specs.Str.{bytes_eq}
 use Rattle.replay.specs.declared.command.Fault.{Fault}
@@ -21,10 +22,6 @@ pick w (row ∷ rows) = cond (bytes_eq w row.0) (Some row.1) (pick w rows)
 abbrev pub rows : {X : Type 0} → List (Bor (List ℕ) × X) → List (List ℕ × X)
 rows table = map (λ row. (row.0.now, row.1)) table
 
-abbrev pub listed : List ℕ → List (List ℕ) → Bool
-listed w [] = false
-listed w (x ∷ xs) = bytes_eq w x || listed w xs
-
 abbrev pub verbs : List (List ℕ × Verb)
 verbs = (codes "measure", Measure) ∷ (codes "admit", Admit) ∷ (codes "limiter", Limiter) ∷ (codes "position", Position) ∷ []
 
@@ -35,7 +32,7 @@ later =
 
 -- the command that a word begins, or why it begins none
 abbrev pub verb : List ℕ → Result Verb Fault
-verb w = ok_or (pick w verbs) (cond (listed w later) faults.Unsupported faults.Unknown)
+verb w = ok_or (pick w verbs) (cond (list_any (bytes_eq w) later) faults.Unsupported faults.Unknown)
 
 abbrev pub choices : List (List ℕ × Choice)
 choices = (codes "allow", Allow) ∷ (codes "reset", Reset) ∷ (codes "set", Set) ∷ (codes "get", Get) ∷ []

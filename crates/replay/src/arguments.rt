@@ -1,5 +1,5 @@
 // What is left of a line, and the arguments that are taken from its left.
-ghost use Rattle.std.specs.Prelude.{◌≡◌, [], ◌∷◌, MatchResult, Some};
+ghost use Rattle.std.specs.Prelude.{◌≡◌, [], ◌∷◌, MatchResult};
 ghost use Rattle.script.specs.Cuts.{Cut};
 ghost use Rattle.script.specs.Escapes.{WellFormed};
 ghost use Rattle.replay.specs.Arguments.{Took, Halts, TakesWord};

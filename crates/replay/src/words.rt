@@ -1,6 +1,8 @@
 // The words of a line.
 ghost use Rattle.std.specs.Prelude.{◌≡◌};
-ghost use Rattle.replay.specs.Words.{pick, rows, listed, later, verb, choice, ReadsRule};
+ghost use Rattle.std.specs.List.{list_any};
+ghost use Rattle.std.specs.Str.{bytes_eq};
+ghost use Rattle.replay.specs.Words.{pick, rows, later, verb, choice, ReadsRule};
 
 use crate::command::{Fault, Rule};
 
@@ -37,7 +39,7 @@ const LATER: [&str; 20] = [
 ];
 
 fn is_later(word: &[u8]) -> bool
-    ensures { result ≡ listed word.now later }
+    ensures { result ≡ list_any (bytes_eq word.now) later }
 {
     LATER.iter().any(|name| word == name.as_bytes())
 }
