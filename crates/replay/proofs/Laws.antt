@@ -1,13 +1,12 @@
 -- A line spells one order at most, and none where it is faulty.
-use Rattle.std.proofs.Common.{◌≡◌, ℕ, cond, List, [], ◌∷◌, get_or, drop, Some, None, codes, Option, sym, refl, ap, ◌∙◌, subst, arith}
+use Rattle.std.proofs.Common.{◌≡◌, ℕ, cond, List, [], ◌∷◌, get_or, drop, Some, None, Ok, codes, Option, Result, sym, refl, ap, ◌∙◌, subst, arith}
 use Rattle.std.specs.Str.Parse.{digits_value}
 use Rattle.std.specs.Str.{bytes_eq}
 use Rattle.replay.specs.declared.command.Fault.{Fault}
 use Rattle.replay.specs.declared.command.Rule.{Rule}
 use Rattle.replay.specs.declared.command.Rule.TheVariants.{Plain, House}
-use Rattle.replay.specs.declared.words.Choice.TheVariants.{Other}
 use Rattle.script.specs.Cuts.{before, behind}
-use Rattle.replay.specs.Faults.{Wrong, no_number, no_rate, above, no_rule, Stops, missing, surplus, wrong, further, escape, Faulty, unknown, unsupported, argument}
+use Rattle.replay.specs.Faults.{Wrong, no_number, no_rate, above, no_rule, Stops, missing, surplus, wrong, further, escape, Faulty, no_command, argument}
 use Rattle.replay.specs.Forms.{Kind, a_word, a_number, a_rate, a_rule, a_text, kind, kinds, Form, measure_form, admit_form, limiter_form, limiter_allow_form, position_form, position_allow_form, position_reset_form, position_set_form, position_get_form, form, opening, arguments, head, due}
 use Rattle.replay.specs.Grammar.{Spelled, as_is, as_number, as_rate, as_rule, Phrase, end, tail, next, Spells}
 use Rattle.script.specs.Numbers.{Number}
@@ -20,18 +19,18 @@ use Rattle.replay.proofs.Tables.{pick_none}
 number_apart : {w : List ℕ} {n : ℕ} → Number w n → (x : List ℕ) → (Number x n → ⊥) → w ≡ x → ⊥
 number_apart {n = n} h x no_x e = no_x (subst (λ l. Number l n) e h)
 
-pub number_choice : {w : List ℕ} {n : ℕ} → Number w n → choice w ≡ Other
+pub number_choice : {w : List ℕ} {n : ℕ} → Number w n → choice w ≡ None
 number_choice {w} {n} h =
-    pick_none w choices Other
+    pick_none w choices
     (number_apart h (codes "allow") (λ m. omega (arith, m.digits.1.0)), (number_apart h (codes "reset") (λ m. omega (arith, m.digits.1.0)), (number_apart h (codes "set") (λ m. omega (arith, m.digits.1.0)), (number_apart h (codes "get") (λ m. omega (arith, m.digits.1.0)), tt))))
 
 -- the first words of a line tell the form of what it spells
-pub due_is : (o : Order) {line : List ℕ} → Spells line o → due line ≡ Some (form o)
+pub due_is : (o : Order) {line : List ℕ} → Spells line o → due line ≡ Ok (form o)
 due_is (measure w u t) (next (as_is e) p) = simp e
 due_is (admit t) (next (as_is e) p) = simp e
 due_is (limiter r s) {line} (next (as_is e) p) = simp (e, second p)
   where
-    second : {rest : Option (List ℕ)} → Phrase (rate r ∷ number s ∷ []) rest → choice (head rest) ≡ Other
+    second : {rest : Option (List ℕ)} → Phrase (rate r ∷ number s ∷ []) rest → choice (head rest) ≡ None
     second (next (as_rate h b) q) = number_choice h
 due_is (limiter_allow n) (next (as_is e) p) = simp (e, second p)
   where
@@ -39,7 +38,7 @@ due_is (limiter_allow n) (next (as_is e) p) = simp (e, second p)
     second (next (as_is h) q) = h
 due_is (position n) (next (as_is e) p) = simp (e, second p)
   where
-    second : {rest : Option (List ℕ)} → Phrase (number n ∷ []) rest → choice (head rest) ≡ Other
+    second : {rest : Option (List ℕ)} → Phrase (number n ∷ []) rest → choice (head rest) ≡ None
     second (next (as_number h) q) = number_choice h
 due_is (position_allow n) (next (as_is e) p) = simp (e, second p)
   where
@@ -77,13 +76,13 @@ spelled_one {w = w} s t e = spelled_is s ∙ ap (λ k. part_of k w) e ∙ sym (s
 
 -- a text is no word
 no_text_word : {p : Part} {w : List ℕ} → Spelled p w → kind p ≡ a_text → ⊥
-no_text_word (as_is h) e = let z : ◌≡◌ {A = ℕ} 0 1 = cc in omega arith
-no_text_word (as_number h) e = let z : ◌≡◌ {A = ℕ} 0 1 = cc in omega arith
-no_text_word (as_rate h b) e = let z : ◌≡◌ {A = ℕ} 0 1 = cc in omega arith
-no_text_word (as_rule h) e = let z : ◌≡◌ {A = ℕ} 0 1 = cc in omega arith
+no_text_word (as_is h) e = cc
+no_text_word (as_number h) e = cc
+no_text_word (as_rate h b) e = cc
+no_text_word (as_rule h) e = cc
 
 absurd_kinds : {A : Type 0} {k : Kind} {ks : List Kind} → [] ≡ k ∷ ks → A
-absurd_kinds e = absurd (let z : ◌≡◌ {A = ℕ} 0 1 = cc in omega arith)
+absurd_kinds e = cc
 
 head_kind : {j k : Kind} {js ks : List Kind} → j ∷ js ≡ k ∷ ks → j ≡ k
 head_kind e = cc
@@ -108,10 +107,10 @@ wrong_spelled (as_rate h b) (above m g) = omega (arith, h.is, m.is)
 wrong_spelled (as_rule e) (no_rule n) = n _ e
 
 wrong_text : {k : Kind} {w : List ℕ} {f : Fault} → Wrong k w f → k ≡ a_text → ⊥
-wrong_text (no_number n) e = let z : ◌≡◌ {A = ℕ} 0 1 = cc in omega arith
-wrong_text (no_rate n) e = let z : ◌≡◌ {A = ℕ} 0 1 = cc in omega arith
-wrong_text (above m g) e = let z : ◌≡◌ {A = ℕ} 0 1 = cc in omega arith
-wrong_text (no_rule n) e = let z : ◌≡◌ {A = ℕ} 0 1 = cc in omega arith
+wrong_text (no_number n) e = cc
+wrong_text (no_rate n) e = cc
+wrong_text (above m g) e = cc
+wrong_text (no_rule n) e = cc
 
 -- what fails at its kinds spells nothing of those kinds
 pub stopped : {ks : List Kind} {ps : List Part} {rest : Option (List ℕ)} {f : Fault} → Stops ks rest f → Phrase ps rest → kinds ps ≡ ks → ⊥
@@ -180,7 +179,7 @@ parted position_get = record { again = refl; opens = refl; takes = refl }
 kinds_of : (o : Order) → kinds (parts o) ≡ a_word (opening (form o)) ∷ arguments (form o)
 kinds_of o = ap kinds (parted o).opens ∙ ap (λ ks. a_word (opening (form o)) ∷ ks) (parted o).takes
 
-same_form : {f g : Form} → Some f ≡ Some g → f ≡ g
+same_form : {f g : Form} → ◌≡◌ {A = Result Form Fault} (Ok f) (Ok g) → f ≡ g
 same_form e = cc
 
 pub unique : {line : List ℕ} (o p : Order) → Spells line o → Spells line p → o ≡ p
@@ -194,14 +193,7 @@ opened : {x : List ℕ} {ps : List Part} {line : List ℕ} → Phrase (word x �
 opened (next s p) = p
 
 pub faulty_spells : {line : List ℕ} {f : Fault} → Faulty line f → (o : Order) → Spells line o → ⊥
-faulty_spells {line} (unknown e) o s =
-    let no_form : due line ≡ None = simp e in
-    let d = due_is o s in
-    let z : ◌≡◌ {A = ℕ} 0 1 = cc in omega arith
-faulty_spells {line} (unsupported e) o s =
-    let no_form : due line ≡ None = simp e in
-    let d = due_is o s in
-    let z : ◌≡◌ {A = ℕ} 0 1 = cc in omega arith
+faulty_spells (no_command e) o s = let d = due_is o s in cc
 faulty_spells {line} {f} (argument {fm = fm} e st) o s =
     let same : form o ≡ fm = same_form (sym (due_is o s) ∙ e) in
     stopped st (opened (subst (λ ps. Phrase ps (Some line)) (parted o).opens s)) ((parted o).takes ∙ ap arguments same)

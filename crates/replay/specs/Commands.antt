@@ -1,5 +1,5 @@
 -- Commands as the program holds them, and what they say.
-use Rattle.std.specs.Prelude.{◌≡◌, ℕ, List, drop, Option, Result, MatchResult}
+use Rattle.std.specs.Prelude.{◌≡◌, ℕ, List, [], drop, Option, Result, MatchResult}
 use Rattle.std.specs.Borrow.{Bor}
 use Rattle.replay.specs.declared.command.Rule as rules
 use Rattle.replay.specs.declared.command.Fault.{Fault}
@@ -22,6 +22,18 @@ pub data Says : Command → Order → Type 0 where
   a_position_reset : {n : ℕ} → Says (PositionReset n) (position_reset n)
   a_position_set : {n : ℕ} → Says (PositionSet n) (position_set n)
   a_position_get : Says PositionGet position_get
+
+-- the text of a command, as it stands in the line
+abbrev pub written : Command → List ℕ
+written (Measure w u t) = t.now
+written (Admit t) = t.now
+written (Limiter r s) = []
+written (LimiterAllow n) = []
+written (Position n) = []
+written (PositionAllow n) = []
+written (PositionReset n) = []
+written (PositionSet n) = []
+written PositionGet = []
 
 -- the command that the line spells, and the only one
 pub record Understood (line : List ℕ) (c : Command) : Type 0 where

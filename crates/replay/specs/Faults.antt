@@ -1,16 +1,14 @@
 -- The faults of a line: the first thing from the left that is not as it is due.
-use Rattle.std.specs.Prelude.{◌≡◌, ℕ, ◌<◌, List, [], ◌∷◌, Some, None, Option, ◌≢◌}
+use Rattle.std.specs.Prelude.{◌≡◌, ℕ, ◌<◌, List, [], ◌∷◌, Some, None, Ok, Err, Option, ◌≢◌}
 use Rattle.replay.specs.declared.command.Fault.{Fault}
-use Rattle.replay.specs.declared.command.Fault.TheVariants.{Unknown, Unsupported, Words, Number, Rate, Rule, Escape}
+use Rattle.replay.specs.declared.command.Fault.TheVariants.{Words, Number, Rate, Rule, Escape}
 use Rattle.replay.specs.declared.command.Rule as rules
-use Rattle.replay.specs.declared.words.Verb.TheVariants.{Later, Unknown as NoVerb}
 use Rattle.script.specs.Cuts.{before, behind}
 use Rattle.script.specs.Escapes.{WellFormed}
 use Rattle.replay.specs.Forms.{Kind, a_number, a_rate, a_rule, a_text, kind, Form, arguments, due}
 use Rattle.replay.specs.Grammar.{Spelled, raw}
 use Rattle.script.specs.Numbers.{NoNumber, Number as IsNumber}
 use Rattle.replay.specs.Orders.{Part, named}
-use Rattle.replay.specs.Words.{verb}
 
 -- a word is not of the kind that is due
 pub data Wrong : Kind → List ℕ → Fault → Type 0 where
@@ -29,6 +27,5 @@ pub data Stops : List Kind → Option (List ℕ) → Fault → Type 0 where
 
 -- why a line is no command
 pub data Faulty : List ℕ → Fault → Type 0 where
-  unknown : {line : List ℕ} → verb (before 32 line) ≡ NoVerb → Faulty line Unknown
-  unsupported : {line : List ℕ} → verb (before 32 line) ≡ Later → Faulty line Unsupported
-  argument : {line : List ℕ} {fm : Form} {f : Fault} → due line ≡ Some fm → Stops (arguments fm) (behind 32 line) f → Faulty line f
+  no_command : {line : List ℕ} {f : Fault} → due line ≡ Err f → Faulty line f
+  argument : {line : List ℕ} {fm : Form} {f : Fault} → due line ≡ Ok fm → Stops (arguments fm) (behind 32 line) f → Faulty line f

@@ -1,9 +1,11 @@
 -- Which command a line is meant to be, by its first words, and what is due in it.
-use Rattle.std.specs.Prelude.{ℕ, List, [], ◌∷◌, Some, None, codes, Option}
+use Rattle.std.specs.Prelude.{ℕ, List, [], ◌∷◌, Some, None, codes, Option, Result}
+use Rattle.std.specs.Result.{result_map_both}
+use Rattle.replay.specs.declared.command.Fault.{Fault}
 use Rattle.replay.specs.declared.words.Verb.{Verb}
-use Rattle.replay.specs.declared.words.Verb.TheVariants.{Measure, Admit, Limiter, Position, Later, Unknown}
+use Rattle.replay.specs.declared.words.Verb.TheVariants.{Measure, Admit, Limiter, Position}
 use Rattle.replay.specs.declared.words.Choice.{Choice}
-use Rattle.replay.specs.declared.words.Choice.TheVariants.{Allow, Reset, Set, Get, Other}
+use Rattle.replay.specs.declared.words.Choice.TheVariants.{Allow, Reset, Set, Get}
 use Rattle.script.specs.Cuts.{before, behind}
 use Rattle.replay.specs.Orders.{Order, measure, admit, limiter, limiter_allow, position, position_allow, position_reset, position_set, position_get, Part, word, number, rate, rule, text}
 use Rattle.replay.specs.Words.{verb, choice}
@@ -83,28 +85,26 @@ abbrev pub after : Option (List ℕ) → Option (List ℕ)
 after None = None
 after (Some rest) = behind 32 rest
 
-abbrev pub limiter_form_of : Choice → Form
-limiter_form_of Allow = limiter_allow_form
-limiter_form_of Reset = limiter_form
-limiter_form_of Set = limiter_form
-limiter_form_of Get = limiter_form
-limiter_form_of Other = limiter_form
+abbrev pub limiter_form_of : Option Choice → Form
+limiter_form_of (Some Allow) = limiter_allow_form
+limiter_form_of (Some Reset) = limiter_form
+limiter_form_of (Some Set) = limiter_form
+limiter_form_of (Some Get) = limiter_form
+limiter_form_of None = limiter_form
 
-abbrev pub position_form_of : Choice → Form
-position_form_of Allow = position_allow_form
-position_form_of Reset = position_reset_form
-position_form_of Set = position_set_form
-position_form_of Get = position_get_form
-position_form_of Other = position_form
+abbrev pub position_form_of : Option Choice → Form
+position_form_of (Some Allow) = position_allow_form
+position_form_of (Some Reset) = position_reset_form
+position_form_of (Some Set) = position_set_form
+position_form_of (Some Get) = position_get_form
+position_form_of None = position_form
 
-abbrev pub form_of : Verb → Choice → Option Form
-form_of Measure c = Some measure_form
-form_of Admit c = Some admit_form
-form_of Limiter c = Some (limiter_form_of c)
-form_of Position c = Some (position_form_of c)
-form_of Later c = None
-form_of Unknown c = None
+abbrev pub form_of : Verb → Option Choice → Form
+form_of Measure c = measure_form
+form_of Admit c = admit_form
+form_of Limiter c = limiter_form_of c
+form_of Position c = position_form_of c
 
--- the form that the first word of a line, and where that leaves a choice the second, asks for
-abbrev pub due : List ℕ → Option Form
-due line = form_of (verb (before 32 line)) (choice (head (behind 32 line)))
+-- the form that the first word of a line, and where that leaves a choice the second, asks for, or why there is none
+abbrev pub due : List ℕ → Result Form Fault
+due line = result_map_both (λ v. form_of v (choice (head (behind 32 line)))) (λ f. f) (verb (before 32 line))

@@ -1,49 +1,45 @@
--- The words that a command begins with.
-use Rattle.std.specs.Prelude.{◌≡◌, ℕ, Bool, false, cond, ◌||◌, List, [], ◌∷◌, codes}
+-- The words that a command begins with, and those that name a width rule.
+use Rattle.std.specs.Prelude.{◌≡◌, ℕ, cond, List, [], ◌∷◌, map, Some, None, codes, Option, Result, MatchResult, ◌≢◌}
+use Rattle.std.specs.Borrow.{Bor}
+use Rattle.std.specs.List.{list_any}
+use Rattle.std.specs.Option.{ok_or}
 use Rattle.std.specs.Str.{bytes_eq}
+use Rattle.replay.specs.declared.command.Fault.{Fault}
+use Rattle.replay.specs.declared.command.Fault.TheVariants as faults
+use Rattle.replay.specs.declared.command.Rule.{Rule}
 use Rattle.replay.specs.declared.words.Verb.{Verb}
-use Rattle.replay.specs.declared.words.Verb.TheVariants.{Measure, Admit, Limiter, Position, Later, Unknown}
+use Rattle.replay.specs.declared.words.Verb.TheVariants.{Measure, Admit, Limiter, Position}
 use Rattle.replay.specs.declared.words.Choice.{Choice}
-use Rattle.replay.specs.declared.words.Choice.TheVariants.{Allow, Reset, Set, Get, Other}
+use Rattle.replay.specs.declared.words.Choice.TheVariants.{Allow, Reset, Set, Get}
+use Rattle.replay.specs.Orders.{named}
 
--- what a table of words has for w, or else
-abbrev pub pick : {X : Type 0} → List ℕ → List (List ℕ × X) → X → X
-pick w [] else-x = else-x
-pick w (row ∷ rows) else-x = cond (bytes_eq w row.0) row.1 (pick w rows else-x)
+-- what a table of words has for w
+abbrev pub pick : {X : Type 0} → List ℕ → List (List ℕ × X) → Option X
+pick w [] = None
+pick w (row ∷ rows) = cond (bytes_eq w row.0) (Some row.1) (pick w rows)
 
-abbrev pub listed : List ℕ → List (List ℕ) → Bool
-listed w [] = false
-listed w (x ∷ xs) = bytes_eq w x || listed w xs
+-- the table that a slice holds
+abbrev pub rows : {X : Type 0} → List (Bor (List ℕ) × X) → List (List ℕ × X)
+rows table = map (λ row. (row.0.now, row.1)) table
 
 abbrev pub verbs : List (List ℕ × Verb)
 verbs = (codes "measure", Measure) ∷ (codes "admit", Admit) ∷ (codes "limiter", Limiter) ∷ (codes "position", Position) ∷ []
 
 -- known, and not supported by this version
-abbrev pub later : List (List ℕ)
+unfoldable pub later : List (List ℕ)
 later =
     codes "terminal" ∷ codes "engine" ∷ codes "credit" ∷ codes "insert" ∷ codes "remove" ∷ codes "mark" ∷ codes "fill" ∷ codes "bar" ∷ codes "text" ∷ codes "empty" ∷ codes "done" ∷ codes "align" ∷ codes "cursor" ∷ codes "draw" ∷ codes "force" ∷ codes "println" ∷ codes "clear" ∷ codes "op" ∷ codes "state" ∷ codes "screen" ∷ []
 
-abbrev pub verb : List ℕ → Verb
-verb w = pick w verbs (cond (listed w later) Later Unknown)
+-- the command that a word begins, or why it begins none
+abbrev pub verb : List ℕ → Result Verb Fault
+verb w = ok_or (pick w verbs) (cond (list_any (bytes_eq w) later) faults.Unsupported faults.Unknown)
 
 abbrev pub choices : List (List ℕ × Choice)
 choices = (codes "allow", Allow) ∷ (codes "reset", Reset) ∷ (codes "set", Set) ∷ (codes "get", Get) ∷ []
 
-abbrev pub choice : List ℕ → Choice
-choice w = pick w choices Other
+abbrev pub choice : List ℕ → Option Choice
+choice w = pick w choices
 
--- the word that is read so
-abbrev pub VerbIs : Verb → List ℕ → Type 0
-VerbIs Measure w = w ≡ codes "measure"
-VerbIs Admit w = w ≡ codes "admit"
-VerbIs Limiter w = w ≡ codes "limiter"
-VerbIs Position w = w ≡ codes "position"
-VerbIs Later w = Unit {0}
-VerbIs Unknown w = Unit {0}
-
-abbrev pub ChoiceIs : Choice → List ℕ → Type 0
-ChoiceIs Allow w = w ≡ codes "allow"
-ChoiceIs Reset w = w ≡ codes "reset"
-ChoiceIs Set w = w ≡ codes "set"
-ChoiceIs Get w = w ≡ codes "get"
-ChoiceIs Other w = Unit {0}
+-- the rule that the word names, or that it names none
+abbrev pub ReadsRule : List ℕ → Result Rule Fault → Type 0
+ReadsRule w r = MatchResult r (λ u. w ≡ named u) (λ f. (f ≡ faults.Rule) × ((u : Rule) → w ≢ named u))

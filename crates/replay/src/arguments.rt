@@ -1,93 +1,110 @@
-// The arguments of a command, taken from the left of what is left of a line.
+// What is left of a line, and the arguments that are taken from its left.
 ghost use Rattle.std.specs.Prelude.{◌≡◌, [], ◌∷◌, MatchResult};
-ghost use Rattle.std.specs.Option.{option_map};
-ghost use Rattle.replay.specs.Arguments.{Took, Halts};
+ghost use Rattle.script.specs.Cuts.{Cut};
 ghost use Rattle.script.specs.Escapes.{WellFormed};
+ghost use Rattle.replay.specs.Arguments.{Took, Halts, TakesWord};
 ghost use Rattle.replay.specs.Faults.{Stops};
 ghost use Rattle.replay.specs.Forms.{a_number, a_rate, a_rule, a_text, head, after};
 ghost use Rattle.replay.specs.Grammar.{Phrase, raw};
 ghost use Rattle.replay.specs.Orders.{number, rate, rule};
+ghost use Rattle.replay.specs.Words.{choice};
 
 use crate::command::{Fault, Rule};
-use crate::words::read_rule;
+use crate::words::Choice;
 use script::escape::is_well_formed;
 use script::lines::cut;
 use script::number::read_number;
+use std::marker::Model;
 
-// The next word, empty where none is left, and what follows it.
-pub(crate) fn peek(rest: Option<&[u8]>) -> (&[u8], Option<&[u8]>)
-    ensures word { result.0.now ≡ head (option_map (λ x. x.now) rest.entry) }
-    ensures rest { option_map (λ x. x.now) result.1 ≡ after (option_map (λ x. x.now) rest.entry) }
-{
-    match rest {
-        Some(line) => cut(line, b' '),
-        None => (b"", None),
+// What is left of a line: the text behind the space that ended the last word, or nothing where the line ended there.
+#[derive(Drop)]
+pub(crate) struct Words<'a> {
+    rest: Option<&'a [u8]>,
+}
+
+impl<'a> Model for Words<'a> {
+    ghost use Rattle.std.specs.Prelude.{ℕ, List, Option};
+    ghost use Rattle.std.specs.Option.{option_map};
+
+    ghost Value = { Option (List ℕ) };
+
+    ghost view = { λ words. option_map (λ x. x.now) words.rest };
+}
+
+impl<'a> Words<'a> {
+    // The first word of a text, and what follows it.
+    pub(crate) fn split(text: &'a [u8]) -> (&'a [u8], Words<'a>)
+        ensures { Cut 32 text.now result.0.now result.1 }
+    {
+        let (word, rest) = cut(text, b' ');
+        (word, Words { rest })
     }
-}
 
-pub(crate) fn take_number(rest: Option<&[u8]>) -> Result<(u64, Option<&[u8]>), Fault>
-    ensures { MatchResult result (λ p. Took (number p.0) (option_map (λ x. x.now) rest.entry) (option_map (λ x. x.now) p.1)) (λ f. Halts a_number (option_map (λ x. x.now) rest.entry) f) }
-{
-    let Some(line) = rest else {
-        return Err(Fault::Words);
-    };
-    let (word, rest) = cut(line, b' ');
-    match read_number(word) {
-        Some(n) => Ok((n, rest)),
-        None => Err(Fault::Number),
+    fn word(&mut self) -> Result<&'a [u8], Fault>
+        ensures { TakesWord self.old result self.new }
+    {
+        let (word, rest) = Words::split(self.rest.ok_or(Fault::Words)?);
+        *self = rest;
+        Ok(word)
     }
-}
 
-pub(crate) fn take_rate(rest: Option<&[u8]>) -> Result<(u8, Option<&[u8]>), Fault>
-    ensures { MatchResult result (λ p. Took (rate p.0) (option_map (λ x. x.now) rest.entry) (option_map (λ x. x.now) p.1)) (λ f. Halts a_rate (option_map (λ x. x.now) rest.entry) f) }
-{
-    let (n, rest) = take_number(rest)?;
-    if n > 255 {
-        return Err(Fault::Rate);
+    // What the next word chooses; it is not taken.
+    pub(crate) fn choice(&self) -> Option<Choice>
+        ensures { result ≡ choice (head self.now) }
+    {
+        let (word, _) = Words::split(self.rest?);
+        Choice::read(word)
     }
-    Ok((n as u8, rest))
-}
 
-pub(crate) fn take_rule(rest: Option<&[u8]>) -> Result<(Rule, Option<&[u8]>), Fault>
-    ensures { MatchResult result (λ p. Took (rule p.0) (option_map (λ x. x.now) rest.entry) (option_map (λ x. x.now) p.1)) (λ f. Halts a_rule (option_map (λ x. x.now) rest.entry) f) }
-{
-    let Some(line) = rest else {
-        return Err(Fault::Words);
-    };
-    let (word, rest) = cut(line, b' ');
-    match read_rule(word) {
-        Some(rule) => Ok((rule, rest)),
-        None => Err(Fault::Rule),
+    // Passes over the next word.
+    pub(crate) fn skip(&mut self)
+        ensures { self.new ≡ after self.old }
+    {
+        if let Some(text) = self.rest {
+            *self = Words::split(text).1;
+        }
     }
-}
 
-pub(crate) fn take_end(rest: Option<&[u8]>) -> Result<(), Fault>
-    ensures { MatchResult result (λ _. Phrase [] (option_map (λ x. x.now) rest.entry)) (λ f. Stops [] (option_map (λ x. x.now) rest.entry) f) }
-{
-    match rest {
-        Some(_) => Err(Fault::Words),
-        None => Ok(()),
+    pub(crate) fn number(&mut self) -> Result<u64, Fault>
+        ensures { MatchResult result (λ n. Took (number n) self.old self.new) (λ f. Halts a_number self.old f) }
+    {
+        read_number(self.word()?).ok_or(Fault::Number)
     }
-}
 
-pub(crate) fn take_last_number(rest: Option<&[u8]>) -> Result<u64, Fault>
-    ensures { MatchResult result (λ n. Phrase (number n ∷ []) (option_map (λ x. x.now) rest.entry)) (λ f. Stops (a_number ∷ []) (option_map (λ x. x.now) rest.entry) f) }
-{
-    let (n, rest) = take_number(rest)?;
-    take_end(rest)?;
-    Ok(n)
-}
+    pub(crate) fn rate(&mut self) -> Result<u8, Fault>
+        ensures { MatchResult result (λ n. Took (rate n) self.old self.new) (λ f. Halts a_rate self.old f) }
+    {
+        u8::try_from(self.number()?).map_err(|_| Fault::Rate)
+    }
 
-pub(crate) fn take_text(rest: Option<&[u8]>) -> Result<&[u8], Fault>
-    ensures { MatchResult result (λ t. (t.now ≡ raw (option_map (λ x. x.now) rest.entry)) × WellFormed (raw (option_map (λ x. x.now) rest.entry))) (λ f. Stops (a_text ∷ []) (option_map (λ x. x.now) rest.entry) f) }
-{
-    let text = match rest {
-        Some(text) => text,
-        None => b"",
-    };
-    if is_well_formed(text) {
-        Ok(text)
-    } else {
-        Err(Fault::Escape)
+    pub(crate) fn rule(&mut self) -> Result<Rule, Fault>
+        ensures { MatchResult result (λ u. Took (rule u) self.old self.new) (λ f. Halts a_rule self.old f) }
+    {
+        Rule::try_from(self.word()?)
+    }
+
+    pub(crate) fn end(self) -> Result<(), Fault>
+        ensures { MatchResult result (λ _. Phrase [] self.entry) (λ f. Stops [] self.entry f) }
+    {
+        match self.rest {
+            Some(_) => Err(Fault::Words),
+            None => Ok(()),
+        }
+    }
+
+    pub(crate) fn last_number(mut self) -> Result<u64, Fault>
+        ensures { MatchResult result (λ n. Phrase (number n ∷ []) self.entry) (λ f. Stops (a_number ∷ []) self.entry f) }
+    {
+        let n = self.number()?;
+        self.end()?;
+        Ok(n)
+    }
+
+    // All that is left, as a text.
+    pub(crate) fn text(self) -> Result<&'a [u8], Fault>
+        ensures { MatchResult result (λ t. (t.now ≡ raw self.entry) × WellFormed (raw self.entry)) (λ f. Stops (a_text ∷ []) self.entry f) }
+    {
+        let text = self.rest.unwrap_or(b"");
+        is_well_formed(text).then_some(text).ok_or(Fault::Escape)
     }
 }

@@ -1,16 +1,20 @@
 // Commands, and the faults of lines that are none.
-ghost use Rattle.std.specs.Prelude.{◌≡◌};
+ghost use Rattle.std.specs.Prelude.{◌≡◌, Some};
+ghost use Rattle.replay.specs.Commands.{written};
 ghost use Rattle.replay.specs.Messages.{message};
 
+use std::error::Error;
+use std::fmt;
+
 // How wide a character is taken to be.
-#[derive(Clone, Copy)]
+#[derive(Clone, Copy, Debug, PartialEq, Eq)]
 pub enum Rule {
     Plain,
     House,
 }
 
 // A command, its text as it stands in the line, with its escapes.
-#[derive(Clone, Copy)]
+#[derive(Clone, Copy, Debug, PartialEq, Eq)]
 pub enum Command<'a> {
     Measure {
         width: u64,
@@ -42,6 +46,18 @@ pub enum Command<'a> {
     PositionGet,
 }
 
+impl<'a> Command<'a> {
+    // The text as it stands in the line, empty where the command has none.
+    pub fn text(&self) -> &'a [u8]
+        ensures { result.now ≡ written self.now }
+    {
+        match *self {
+            Command::Measure { text, .. } | Command::Admit { text } => text,
+            _ => b"",
+        }
+    }
+}
+
 // Why a line is no command.
 #[derive(Clone, Copy, Debug, PartialEq, Eq)]
 pub enum Fault {
@@ -70,3 +86,13 @@ impl Fault {
         }
     }
 }
+
+impl fmt::Display for Fault {
+    ghost output = { λ fault. Some (message fault) };
+
+    fn fmt<W: fmt::Write>(&self, f: &mut fmt::Formatter<W>) -> fmt::Result {
+        f.write_str(self.message())
+    }
+}
+
+impl Error for Fault {}

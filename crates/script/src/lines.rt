@@ -1,9 +1,9 @@
 // A script and its lines, a line and its words.
-ghost use Rattle.std.specs.Prelude.{◌≡◌, ℕ, ◌<◌, true, false, length, Decides, MatchOption, ◌≢◌, slice_index};
+ghost use Rattle.std.specs.Prelude.{◌≡◌, length, Decides, MatchOption};
 ghost use Rattle.std.specs.Iterator.{item_count};
 ghost use Rattle.std.specs.Option.{option_map};
 ghost use Rattle.script.specs.Cuts.{Cut};
-ghost use Rattle.script.specs.Scripts.{Line, Blank, Skipped};
+ghost use Rattle.script.specs.Scripts.{Line, Skipped};
 
 use std::marker::Model;
 
@@ -68,5 +68,5 @@ impl<'a> Iterator for Lines<'a> {
 pub fn is_skipped(line: &[u8]) -> bool
     ensures { Decides result (Skipped line.now) }
 {
-    line.first() == Some(&b'#') || line.iter().all(|b| *b == b' ')
+    line.starts_with(b"#") || line.iter().all(|b| *b == b' ')
 }
