@@ -4,14 +4,14 @@ use Rattle.std.proofs.lemmas.Option.{none-some}
 use Rattle.std.specs.Option.{option_map}
 use Rattle.trace.specs.declared.answer.Answer.{Answer}
 use Rattle.replay.specs.declared.command.Command.{Command}
-use Rattle.replay.specs.Commands.{Says, a_measure, an_admit, a_limiter, a_limiter_allow, a_position, a_position_allow, a_position_reset, a_position_set, a_position_get, Understood}
+use Rattle.replay.specs.Commands.{Says, a_measure, an_admit, a_limiter, a_limiter_allow, a_position, a_position_allow, a_position_reset, a_position_set, a_position_get, Understood, written}
 use Rattle.script.specs.Escapes.{Means}
 use Rattle.replay.specs.Orders.{Order, measure, admit, limiter, limiter_allow, position, position_allow, position_reset, position_set, position_get}
 use Rattle.script.proofs.Bytes.{means_one}
 use Rattle.runner.specs.Answers.{State, answer, after, with_limiter, with_position}
 use Rattle.runner.specs.declared.stop.Halt.{Halt}
 use Rattle.runner.specs.declared.stop.Halt.TheVariants as halts
-use Rattle.runner.specs.Runs.{written, said, Played}
+use Rattle.runner.specs.Runs.{said, Played}
 use Rattle.runner.specs.Stops.{Halted}
 
 -- a command says what its text means

@@ -13,18 +13,6 @@ use Rattle.trace.specs.Traces.{traced}
 use Rattle.runner.specs.declared.summary.Summary.{Summary}
 use Rattle.runner.specs.Answers.{State, answer, after}
 
--- the text of a command, as it stands in the line
-abbrev pub written : Command → List ℕ
-written (Measure w u t) = t.now
-written (Admit t) = t.now
-written (Limiter r s) = []
-written (LimiterAllow n) = []
-written (Position n) = []
-written (PositionAllow n) = []
-written (PositionReset n) = []
-written (PositionSet n) = []
-written PositionGet = []
-
 -- what a command says whose text means bs
 abbrev pub said : Command → List ℕ → Order
 said (Measure w u t) bs = measure w u bs

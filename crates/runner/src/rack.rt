@@ -1,7 +1,7 @@
 // What stands while a script runs, and the commands on it.
 ghost use Rattle.std.specs.Prelude.{◌≡◌};
 ghost use Rattle.runner.specs.Answers.{State, nothing, answer, after};
-ghost use Rattle.runner.specs.Runs.{written, said};
+ghost use Rattle.runner.specs.Runs.{said};
 
 use crate::calls::{admitted, make_limiter, measured, told};
 use limiter::{AtomicPosition, RateLimiter};
@@ -69,15 +69,5 @@ impl Rack {
                 Some(Answer::Position { at })
             }
         }
-    }
-}
-
-// The text of a command as it stands in its line.
-pub(crate) fn written<'a>(command: &Command<'a>) -> &'a [u8]
-    ensures { result.now ≡ written command.now }
-{
-    match *command {
-        Command::Measure { text, .. } | Command::Admit { text } => text,
-        _ => b"",
     }
 }

@@ -4,7 +4,7 @@ ghost use Rattle.trace.specs.Traces.{traced};
 ghost use Rattle.runner.specs.Runs.{Played, Ran, complete};
 ghost use Rattle.runner.specs.Stops.{Halted, Stopped};
 
-use crate::rack::{Rack, written};
+use crate::rack::Rack;
 use crate::stop::{Halt, Stop};
 use crate::summary::Summary;
 use replay::parse::parse;
@@ -19,7 +19,7 @@ pub fn play(rack: &mut Rack, heap: Global, line: &[u8], out: &mut Vec<u8>) -> Re
 {
     let command = parse(line)?;
     let mut text = Vec::new(heap);
-    unescape(written(&command), &mut text)?;
+    unescape(command.text(), &mut text)?;
     let answer = rack.perform(&command, &text).ok_or(Halt::Missing)?;
     trace(out, line, &answer)?;
     Ok(answer)

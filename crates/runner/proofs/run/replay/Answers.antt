@@ -10,8 +10,7 @@ loop-i-preserved-then-is_skipped c =
 
 pub loop-i-preserved : goal.loop-i-preserved
 loop-i-preserved c =
-    let step = c.in-Some.ensures.steps in
-    (
+    let step = c.in-Some.ensures.steps in (
       search rules,
       search rules,
       rw step.2 (answered _ _ _ _ _ _ _ _ _ c.loop-i.invariant.2 step.0 (λ k. false≢true (c.if-is_skipped.ensures.1 k)) c.in-Ok.answer _ _ _ c.in-Ok.ensures.0 c.in-Ok.ensures.1 c.count-summary.ensures),
