@@ -7,7 +7,7 @@ use Rattle.limiter.specs.Figures as limiter
 -- the line is measured, and takes so many rows, the last of so many cells
 pub record Takes (W : ℕ) (u : ℕ → ℕ) (line : List ℕ) (rows column : ℕ) : Type 0 where
   pub accepted : measure_number W line ≡ 0
-  pub is : measured W u line ≡ record { height = record { 0 = rows }; last_line_width = column }
+  pub is : measured W u line ≡ record { height = rows; last_line_width = column }
 
 pub record Figures : Type 0 where
   -- ten letters fill a row of ten cells, and one more wraps

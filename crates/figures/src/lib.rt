@@ -4,6 +4,7 @@
 ghost use Rattle.figures.specs.Figures.{Figures};
 
 // All of them together, by computation.
+#[tactic(auto, using(crate::proofs::Holding::figures))]
 pub fn figures_hold()
     ensures { Figures }
 {}

@@ -30,10 +30,10 @@ pub record Ahead (W H k : ℕ) (p : Page) : Type 0 where
 -- q shows these rows from the row r on, all else as it was around them, and its cursor stands where the measure m says
 pub record Lies (W : ℕ) (u : ℕ → ℕ) (rows : List (List ℕ)) (above under : List ℕ) (r : ℕ) (m : Metrics) (q : Page) : Type 0 where
   pub cells : q.cells ≡ above ++ (laid W u rows ++ under)
-  pub row : q.row + 1 ≡ r + m.height.0
+  pub row : q.row + 1 ≡ r + m.height
   pub column : q.column ≡ m.last_line_width
 
 -- the screen s, with the characters xs written on blank rows from its cursor on, is t: they lie in the rows into which measure divides them
 abbrev pub ShowsMeasured : List ℕ → Screen → Screen → Type 0
-ShowsMeasured xs s t = (m : Metrics) (k : Measures s.width s.rule xs m) (a : Ahead s.width s.height m.height.0 s.page)
+ShowsMeasured xs s t = (m : Metrics) (k : Measures s.width s.rule xs m) (a : Ahead s.width s.height m.height s.page)
     → Lies s.width s.rule k.rows a.above a.under s.page.row m t.page
