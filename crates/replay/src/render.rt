@@ -4,7 +4,7 @@ ghost use Rattle.replay.specs.Orders.{named};
 ghost use Rattle.replay.specs.Rendering.{escaped, escaped_byte, meaning, rendering, said, Rendered};
 
 use crate::command::{Command, Rule};
-use script::escape::next_byte;
+use script::escape::SpelledBytes;
 use std::alloc::{AllocError, Global};
 use std::fmt;
 
@@ -21,11 +21,9 @@ impl fmt::Display for Command<'_> {
 
     fn fmt<W: fmt::Write>(&self, f: &mut fmt::Formatter<W>) -> fmt::Result {
         match *self {
-            Command::Measure { width, rule, text } => write!(
-                f,
-                "measure {width} {rule} {}",
-                Escaped(text)
-            ),
+            Command::Measure { width, rule, text } => {
+                write!(f, "measure {width} {rule} {}", Escaped(text))
+            }
             Command::Admit { text } => write!(f, "admit {}", Escaped(text)),
             Command::Limiter { rate, start } => write!(f, "limiter {rate} {start}"),
             Command::LimiterAllow { now } => write!(f, "limiter allow {now}"),
@@ -57,10 +55,8 @@ impl fmt::Display for Escaped<'_> {
     ghost output = { λ text. Some (escaped (meaning text.0.now)) };
 
     fn fmt<W: fmt::Write>(&self, f: &mut fmt::Formatter<W>) -> fmt::Result {
-        let mut rest = self.0;
-        while let Some((b, tail)) = next_byte(rest) {
+        for b in SpelledBytes::new(self.0) {
             write!(f, "{}", EscapedByte(b))?;
-            rest = tail;
         }
         Ok(())
     }

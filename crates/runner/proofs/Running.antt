@@ -1,5 +1,5 @@
 -- A whole script, line by line.
-use Rattle.std.proofs.Common.{◌≡◌, ℕ, suc, ◌+◌, ◌<◌, ◌≤◌, true, false, ◌⊎◌, List, [], ◌∷◌, ◌++◌, length, sym, refl, ap, ◌∙◌, subst, inl, inr, append_assoc, append-nil, add_assoc, arith, length-append}
+use Rattle.std.proofs.Common.{◌≡◌, ℕ, suc, ◌+◌, ◌<◌, ◌≤◌, ◌⊎◌, List, [], ◌∷◌, ◌++◌, length, sym, refl, ap, ◌∙◌, subst, inl, inr, append_assoc, append-nil, arith, length-append}
 use Rattle.trace.specs.declared.answer.Answer.{Answer}
 use Rattle.trace.specs.declared.answer.Answer.TheVariants as answers
 use Rattle.script.specs.Scripts.{Line, Skipped}
@@ -10,10 +10,6 @@ use Rattle.runner.specs.Answers.{State, nothing}
 use Rattle.runner.specs.declared.summary.Summary.{Summary}
 use Rattle.runner.specs.Runs.{Played, none, refusals, counted, Ending, complete, faulty, missing, below, Replayed, ended, skip, play, refuse, lack, Ran}
 use Rattle.runner.specs.Stops.{Halted, stopped}
-use Rattle.runner.specs.Tallies.{counted_in}
-
-pub not_false : false ≡ true → ⊥
-not_false e = let z : ◌≡◌ {A = ℕ} 0 1 = cc in omega arith
 
 -- a line is shorter than its script
 pub shorter : (script line rest : List ℕ) → Line script line rest → length rest < length script
@@ -48,10 +44,10 @@ plus_none k = let c : 0 + k.commands ≡ k.commands = omega arith in let r : 0 +
 none_plus : (k : Summary) → plus k none ≡ k
 none_plus k = let c : k.commands + 0 ≡ k.commands = omega arith in let r : k.refused + 0 ≡ k.refused = omega arith in λ i. record { commands = c i; refused = r i }
 
-plus_more : (j k : Summary) (a : Answer) → plus j (counted a k) ≡ plus (counted_in j a) k
+plus_more : (j k : Summary) (a : Answer) → plus j (counted a k) ≡ plus (counted a j) k
 plus_more j k a =
-    let c : j.commands + suc k.commands ≡ j.commands + 1 + k.commands = omega arith in
-    let r : j.refused + (refusals a + k.refused) ≡ j.refused + refusals a + k.refused = sym (add_assoc j.refused (refusals a) k.refused) in
+    let c : j.commands + suc k.commands ≡ suc j.commands + k.commands = omega arith in
+    let r : j.refused + (refusals a + k.refused) ≡ refusals a + j.refused + k.refused = omega arith in
     λ i. record { commands = c i; refused = r i }
 
 -- what is left runs on as the whole does
@@ -92,12 +88,12 @@ module _ (script before : List ℕ) (s : State) (rest now : List ℕ) (n : ℕ) 
     few = (omega (arith, h.few), omega (arith, h.few));
   }
 
-  pub answered : (Skipped line → ⊥) → (a : Answer) (t : State) (next : List ℕ) (i : Summary) → Played s line a t → next ≡ now ++ traced line a → i ≡ counted_in j a → Sofar script before t tail next (n + 1) i
+  pub answered : (Skipped line → ⊥) → (a : Answer) (t : State) (next : List ℕ) (i : Summary) → Played s line a t → next ≡ now ++ traced line a → i ≡ counted a j → Sofar script before t tail next (n + 1) i
   answered k a t next i p e c = subst (Sofar script before t tail next (n + 1)) (sym c) (record {
     done = h.done ++ traced line a;
     put = e ∙ ap (λ x. x ++ traced line a) h.put ∙ append_assoc before h.done (traced line a);
     on = λ trace y e r.
-        subst (λ x. Replayed nothing script x (plus (counted_in j a) y) (shift (n + 1) e)) (sym (append_assoc h.done (traced line a) trace))
+        subst (λ x. Replayed nothing script x (plus (counted a j) y) (shift (n + 1) e)) (sym (append_assoc h.done (traced line a) trace))
         (subst (λ x. Replayed nothing script (h.done ++ (traced line a ++ trace)) x (shift (n + 1) e)) (plus_more j y a)
         (subst (Replayed nothing script (h.done ++ (traced line a ++ trace)) (plus j (counted a y))) (shift_more n e) (h.on (traced line a ++ trace) (counted a y) (below e) (play l k p r))));
     room = omega (arith, h.room, shorter rest line tail l);

@@ -2,4 +2,3 @@ pub mod Answers
 pub mod Runs
 pub mod Stops
 pub mod Reasons
-pub mod Tallies

@@ -50,6 +50,7 @@ refusals answers.Yes = 0
 refusals answers.No = 0
 refusals (answers.Position n) = 0
 
+-- one answer more
 abbrev pub counted : Answer → Summary → Summary
 counted a k = record { commands = suc k.commands; refused = refusals a + k.refused }
 
@@ -64,7 +65,7 @@ below complete = complete
 below (faulty n f) = faulty (suc n) f
 below (missing n) = missing (suc n)
 
--- from the state s the script gives this trace and this tally, and ends so
+-- from the state s the script gives this trace and these counts, and ends so
 pub data Replayed : State → List ℕ → List ℕ → Summary → Ending → Type 0 where
   ended : (s : State) → Replayed s [] [] none complete
   skip : {s : State} {script line rest trace : List ℕ} {k : Summary} {e : Ending} → Line script line rest → Skipped line → Replayed s rest trace k e → Replayed s script trace k (below e)

@@ -1,8 +1,7 @@
 // How often a run was answered.
 ghost use Rattle.std.specs.Prelude.{◌≡◌, ◌+◌, ◌-◌, ◌^◌, ◌<◌, Some};
 ghost use Rattle.runner.specs.Reasons.{summary_shown};
-ghost use Rattle.runner.specs.Runs.{none};
-ghost use Rattle.runner.specs.Tallies.{counted_in};
+ghost use Rattle.runner.specs.Runs.{none, counted};
 
 use std::fmt;
 use trace::answer::Answer;
@@ -26,7 +25,7 @@ impl Summary {
     // One answer more.
     pub(crate) fn count(self, answer: &Answer) -> Summary
         requires { (self.commands < 2 ^ 64 - 1) × (self.refused < 2 ^ 64 - 1) }
-        ensures { result ≡ counted_in self answer.now }
+        ensures { result ≡ counted answer.now self }
     {
         let refused = match answer {
             Answer::Refused { .. } => self.refused + 1,
