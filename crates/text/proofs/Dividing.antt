@@ -72,12 +72,12 @@ module _ (W : ℕ) (u : ℕ → ℕ) (rule : (c : ℕ) → u c ≤ W) where
   stays row f c col e h = let k = full row (c ∷ f) h in grind (arith, nat_tests)
 
   kept_on : (b : Bool) (c : ℕ) (f : List ℕ) (l : List (List ℕ)) (new old : Cutting) → b ≡ false → Only f l old → Only (c ∷ f) l (cut_at b c new old)
-  kept_on true c f l new old e o = absurd (let z : ◌≡◌ {A = ℕ} 0 1 = cc in omega arith)
+  kept_on true c f l new old e o = cc
   kept_on false c f l new old e o = record { first_is = ap (λ x. c ∷ x) o.first_is; later_is = o.later_is }
 
   broken_at : (b : Bool) (c : ℕ) (f : List ℕ) (l : List (List ℕ)) (new old : Cutting) → b ≡ true → Only f l new → Only [] ((c ∷ f) ∷ l) (cut_at b c new old)
   broken_at true c f l new old e o = record { first_is = refl; later_is = λ i. (c ∷ o.first_is i) ∷ o.later_is i }
-  broken_at false c f l new old e o = absurd (let z : ◌≡◌ {A = ℕ} 0 1 = cc in omega arith)
+  broken_at false c f l new old e o = cc
 
   only : (cs row f : List ℕ) (l : List (List ℕ)) (col : ℕ) → span u row ≡ col → Rows W u ((row ++ f) ∷ l) → f ++ join l ≡ cs → Only f l (cutting W u col cs)
   only [] row [] l col e r j = only_none row l r j
@@ -85,8 +85,8 @@ module _ (W : ℕ) (u : ℕ → ℕ) (rule : (c : ℕ) → u c ≤ W) where
       only_none : (row : List ℕ) (l : List (List ℕ)) → Rows W u ((row ++ []) ∷ l) → join l ≡ [] → Only [] l (record { first = []; later = [] })
       only_none row [] r j = record { first_is = refl; later_is = refl }
       only_none row ([] ∷ l) r j = absurd (later_some r)
-      only_none row ((d ∷ n) ∷ l) r j = absurd (let z : ◌≡◌ {A = ℕ} 0 1 = cc in omega arith)
-  only [] row (d ∷ f) l col e r j = absurd (let z : ◌≡◌ {A = ℕ} 0 1 = cc in omega arith)
+      only_none row ((d ∷ n) ∷ l) r j = cc
+  only [] row (d ∷ f) l col e r j = cc
   only (c ∷ cs) row (d ∷ f) l col e r j =
       let same : d ≡ c = cc in
       let rest : f ++ join l ≡ cs = cc in
@@ -95,7 +95,7 @@ module _ (W : ℕ) (u : ℕ → ℕ) (rule : (c : ℕ) → u c ≤ W) where
       subst (λ x. Only (x ∷ f) l (cutting W u col (c ∷ cs))) (sym same)
       (kept_on (wraps W col (u c)) c f l (cutting W u (u c) cs) (cutting W u (col + u c) cs) (stays row f c col e (fits r'))
       (only cs (row ++ c ∷ []) f l (col + u c) e' (subst (λ x. Rows W u (x ∷ l)) (sym (append_assoc row (c ∷ []) f)) r') rest))
-  only (c ∷ cs) row [] [] col e r j = absurd (let z : ◌≡◌ {A = ℕ} 0 1 = cc in omega arith)
+  only (c ∷ cs) row [] [] col e r j = cc
   only (c ∷ cs) row [] ([] ∷ l) col e r j = absurd (later_some r)
   only (c ∷ cs) row [] ((d ∷ n) ∷ l) col e r j =
       let same : d ≡ c = cc in

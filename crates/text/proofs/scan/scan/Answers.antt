@@ -1,5 +1,5 @@
-use Rattle.std.proofs.Common.{arith, rules, sym, ap, ◌∙◌, Some}
-use Rattle.text.proofs.Scanning.{shorter, first, no_char, refused, plain, colour, ended}
+use Rattle.std.proofs.Common.{rules, sym, ap, ◌∙◌, Some}
+use Rattle.text.proofs.Scanning.{no_char, refused, plain, colour, ended}
 use Rattle.text.proofs.scan.scan.Goals as goal
 
 pub returns-in_err-c : goal.returns-in_err-c
