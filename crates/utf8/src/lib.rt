@@ -26,11 +26,7 @@ pub fn decode(s: &[u8]) -> Option<(u32, &[u8])>
 fn tail(b: u8) -> Option<u32>
     ensures { SomeIff result (Tail b) (b - 0x80) }
 {
-    if (0x80..=0xBF).contains(&b) {
-        Some(u32::from(b - 0x80))
-    } else {
-        None
-    }
+    (0x80..=0xBF).contains(&b).then(|| u32::from(b - 0x80))
 }
 
 // Whether two octets are the shortest form of code.
