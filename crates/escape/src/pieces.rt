@@ -6,7 +6,7 @@ ghost use Rattle.std.specs.Iterator.{at_most};
 use crate::piece::Piece;
 use crate::sequence::{plain_len, sequence_len};
 
-#[derive(Drop)]
+#[derive(Debug, Drop)]
 pub struct AnsiCodeIterator<'a> {
     line: &'a [u8],
     at: usize,

@@ -60,20 +60,23 @@ impl AtomicPosition {
 
     // Starts again at the reading `now`, with the capacity that is held.
     pub fn reset(&mut self, now: u64)
-        ensures { self.new ≡ restarted self.old now }
+        ensures again { self.new ≡ restarted self.old now }
+        ensures few { (self.old.capacity ≤ 10) × (self.new.capacity ≤ 10) }
     {
         self.set(0);
         self.prev = now.saturating_sub(self.start);
     }
 
     pub fn set(&mut self, pos: u64)
-        ensures { self.new ≡ placed self.old pos }
+        ensures placed { self.new ≡ placed self.old pos }
+        ensures few { (self.old.capacity ≤ 10) × (self.new.capacity ≤ 10) }
     {
         self.pos = pos;
     }
 
     pub fn get(&self) -> u64
-        ensures { result ≡ self.now.pos }
+        ensures value { result ≡ self.now.pos }
+        ensures few { self.now.capacity ≤ 10 }
     {
         self.pos
     }

@@ -48,14 +48,14 @@ fn run_source<R: AllocGlobal + Files + Input + Print + Eprint>(
     source: &str,
     report: Report,
 ) -> anyhow::Result<ExitCode> {
-    if source == "-" {
-        let mut script = Vec::new(rt.alloc());
-        let _ = rt.reader().read_to_end(&mut script)?;
-        run(rt, &script, report)
+    let script = if source == "-" {
+        let mut input = Vec::new(rt.alloc());
+        let _ = rt.reader().read_to_end(&mut input)?;
+        input
     } else {
-        let script = fs::read(rt, source)?;
-        run(rt, &script, report)
-    }
+        fs::read(rt, source)?
+    };
+    run(rt, &script, report)
 }
 
 // By the words behind the program's name.

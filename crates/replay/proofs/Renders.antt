@@ -6,9 +6,9 @@ use Rattle.script.specs.Escapes.{Hex, Byte, NoByte, itself, backslash, newline, 
 use Rattle.script.proofs.Bytes.{byte_less, means_one, no_byte_nil, no_escape}
 use Rattle.replay.specs.declared.command.Command.{Command}
 use Rattle.replay.specs.declared.command.Command.TheVariants.{Measure, Admit, Limiter, LimiterAllow, Position, PositionAllow, PositionReset, PositionSet, PositionGet}
-use Rattle.replay.specs.Commands.{Says, a_measure, an_admit, a_limiter, a_limiter_allow, a_position, a_position_allow, a_position_reset, a_position_set, a_position_get}
+use Rattle.replay.specs.Commands.{Says, a_measure, an_admit, a_limiter, a_limiter_allow, a_position, a_position_allow, a_position_reset, a_position_set, a_position_get, written, said}
 use Rattle.replay.specs.Orders.{Order, measure, admit}
-use Rattle.replay.specs.Rendering.{first_coded, first_escaped, first_byte, first_then, meaning, meaning_within, rendering, said, Rendered}
+use Rattle.replay.specs.Rendering.{first_coded, first_escaped, first_byte, first_then, meaning, meaning_within, rendering, order_of, Rendered}
 
 abbrev Begins : List ℕ → Option (ℕ × List ℕ) → Type 0
 Begins raw o = MatchOption o (NoByte raw) (λ p. Byte raw p.0 p.1)
@@ -62,28 +62,28 @@ meaning-byte {raw} {rest} p = let m = meaning_means rest in means_one (meaning_m
 pub meaning-end : {raw : List ℕ} → NoByte raw → meaning raw ≡ []
 meaning-end {raw} p = means_one (meaning_means raw) (record { left = raw; spelt = none; ends = p })
 
-says_said : (c : Command) → Says c (said c)
-says_said (Measure w u t) = a_measure (meaning_means t.now)
-says_said (Admit t) = an_admit (meaning_means t.now)
-says_said (Limiter r s) = a_limiter
-says_said (LimiterAllow n) = a_limiter_allow
-says_said (Position n) = a_position
-says_said (PositionAllow n) = a_position_allow
-says_said (PositionReset n) = a_position_reset
-says_said (PositionSet n) = a_position_set
-says_said PositionGet = a_position_get
+says_order : (c : Command) → Says c (order_of c)
+says_order (Measure w u t) = a_measure (meaning_means t.now)
+says_order (Admit t) = an_admit (meaning_means t.now)
+says_order (Limiter r s) = a_limiter
+says_order (LimiterAllow n) = a_limiter_allow
+says_order (Position n) = a_position
+says_order (PositionAllow n) = a_position_allow
+says_order (PositionReset n) = a_position_reset
+says_order (PositionSet n) = a_position_set
+says_order PositionGet = a_position_get
 
--- a command says one order
-says_one : {c : Command} {o p : Order} → Says c o → Says c p → o ≡ p
-says_one (a_measure {w} {u} m) (a_measure n) = ap (λ bs. measure w u bs) (means_one m n)
-says_one (an_admit m) (an_admit n) = ap admit (means_one m n)
-says_one a_limiter a_limiter = refl
-says_one a_limiter_allow a_limiter_allow = refl
-says_one a_position a_position = refl
-says_one a_position_allow a_position_allow = refl
-says_one a_position_reset a_position_reset = refl
-says_one a_position_set a_position_set = refl
-says_one a_position_get a_position_get = refl
+-- a command says what its text means
+pub said_is : {c : Command} {o : Order} (bs : List ℕ) → Says c o → Means (written c) bs → o ≡ said c bs
+said_is bs (a_measure {w = w} {u = u} m) h = ap (measure w u) (means_one m h)
+said_is bs (an_admit m) h = ap admit (means_one m h)
+said_is bs a_limiter h = refl
+said_is bs a_limiter_allow h = refl
+said_is bs a_position h = refl
+said_is bs a_position_allow h = refl
+said_is bs a_position_reset h = refl
+said_is bs a_position_set h = refl
+said_is bs a_position_get h = refl
 
-pub rendered : (c : Command) (bs : List ℕ) → bs ≡ rendering (said c) → Rendered c bs
-rendered c bs e = record { order = said c; says = says_said c; alone = λ o s. says_one s (says_said c); line = e }
+pub rendered : (c : Command) (bs : List ℕ) → bs ≡ rendering (order_of c) → Rendered c bs
+rendered c bs e = record { order = order_of c; says = says_order c; alone = λ o s. said_is (meaning (written c)) s (meaning_means (written c)); line = e }

@@ -1,5 +1,5 @@
 -- One word taken, and what follows from what was taken.
-use Rattle.std.proofs.Common.{◌≡◌, ℕ, ◌<◌, Bool, true, false, List, [], ◌∷◌, Bor, Decides, refl, IsErrAnd, Some, None, Ok, Err, Option, Result, sym, subst, arith, MatchOption, MatchResult}
+use Rattle.std.proofs.Common.{◌≡◌, ℕ, ◌<◌, Bool, true, false, List, [], ◌∷◌, Bor, Decides, refl, IsErrAnd, Some, None, Ok, Err, Option, Result, sym, ap, ◌∙◌, subst, arith, MatchOption, MatchResult}
 use Rattle.std.specs.Bool.{then_some}
 use Rattle.std.specs.Option.{ok_or, option_map, unwrap_or}
 use Rattle.std.specs.Result.{OkIff, result_map_both}
@@ -12,10 +12,10 @@ use Rattle.replay.specs.declared.command.Fault.TheVariants as faults
 use Rattle.replay.specs.declared.command.Rule.{Rule}
 use Rattle.script.specs.Numbers.{Number, NoNumber}
 use Rattle.replay.specs.Words.{ReadsRule}
-use Rattle.replay.specs.Arguments.{Took, Halts, no_word, wrong_word}
+use Rattle.replay.specs.Arguments.{Took, Halts, TakesWord, no_word, wrong_word}
 use Rattle.script.specs.Cuts.{Cut}
 use Rattle.replay.specs.Faults.{Wrong, no_number, no_rate, above, no_rule, Stops, missing, wrong, further, escape}
-use Rattle.replay.specs.Forms.{Kind, a_number, a_rate, a_rule, a_text, kind}
+use Rattle.replay.specs.Forms.{Kind, a_number, a_rate, a_rule, a_text, kind, after}
 use Rattle.replay.specs.Grammar.{Spelled, as_number, as_rate, as_rule, Phrase, next, raw}
 use Rattle.replay.specs.Orders.{Part, number, rate, rule}
 
@@ -29,7 +29,7 @@ halted : {k : Kind} {rest left : Option (List ℕ)} {w : List ℕ} {f : Fault} �
 halted {k} {f = f} t h = subst (λ r. Halts k r f) (sym t.1) (wrong_word (subst (λ w. Wrong k w f) t.2.front_is h))
 
 -- where nothing is left
-pub halted_end : {k : Kind} {rest : Option (List ℕ)} {f : Fault} → (k ≡ a_text → ⊥) → (f ≡ Words) × (rest ≡ None) → Halts k rest f
+pub halted_end : {k : Kind} {rest left : Option (List ℕ)} {f : Fault} → (k ≡ a_text → ⊥) → (f ≡ Words) × (rest ≡ None) × (left ≡ rest) → Halts k rest f
 halted_end {k} h e = simp (e.0, e.1) (no_word h)
 
 pub took_number : {rest left : Option (List ℕ)} {w : List ℕ} (o : Option ℕ) → Taken rest w left → MatchOption o (NoNumber w) (λ n. Number w n) → MatchResult (ok_or o faults.Number) (λ n. Took (number n) rest left) (λ f. Halts a_number rest f)
@@ -84,3 +84,8 @@ pub took_text : (rest : Option (List ℕ)) (b : Bool) (t : Bor (List ℕ)) → D
     → MatchResult (ok_or (then_some b t) faults.Escape) (λ t. (t.now ≡ raw rest) × WellFormed (raw rest)) (λ f. Stops (a_text ∷ []) rest f)
 took_text rest true t d e = (e, subst WellFormed e (d.0 refl))
 took_text rest false t d e = escape (λ w. false≢true (d.1 (subst WellFormed (sym e) w)))
+
+-- a word that is taken, or none, leaves what follows it
+pub skipped : (rest left : Option (List ℕ)) (r : Result (Bor (List ℕ)) Fault) → TakesWord rest r left → left ≡ after rest
+skipped rest left (Ok w) (line, from, cut) = simp from cut.rest_is
+skipped rest left (Err f) (fault, none, same) = same ∙ none ∙ ap after (sym none)

@@ -23,4 +23,4 @@ pub data Halts : Kind → Option (List ℕ) → Fault → Type 0 where
 
 -- the first word was cut off what is left, or nothing was left
 abbrev pub TakesWord : Option (List ℕ) → Result (Bor (List ℕ)) Fault → Option (List ℕ) → Type 0
-TakesWord rest r left = MatchResult r (λ w. (line : List ℕ) × (rest ≡ Some line) × Cut 32 line w.now left) (λ f. (f ≡ Words) × (rest ≡ None))
+TakesWord rest r left = MatchResult r (λ w. (line : List ℕ) × (rest ≡ Some line) × Cut 32 line w.now left) (λ f. (f ≡ Words) × (rest ≡ None) × (left ≡ rest))

@@ -35,6 +35,18 @@ written (PositionReset n) = []
 written (PositionSet n) = []
 written PositionGet = []
 
+-- what a command says whose text means bs
+abbrev pub said : Command → List ℕ → Order
+said (Measure w u t) bs = measure w u bs
+said (Admit t) bs = admit bs
+said (Limiter r s) bs = limiter r s
+said (LimiterAllow n) bs = limiter_allow n
+said (Position n) bs = position n
+said (PositionAllow n) bs = position_allow n
+said (PositionReset n) bs = position_reset n
+said (PositionSet n) bs = position_set n
+said PositionGet bs = position_get
+
 -- the command that the line spells, and the only one
 pub record Understood (line : List ℕ) (c : Command) : Type 0 where
   pub order : Order

@@ -3,8 +3,7 @@ use Rattle.std.specs.Prelude.{◌≡◌, ℕ, zero, suc, ◌+◌, ◌*◌, ◌/�
 use Rattle.std.specs.Char.{digit_char, digit_value}
 use Rattle.std.specs.List.{flat_map, AllByRecursion}
 use Rattle.replay.specs.declared.command.Command.{Command}
-use Rattle.replay.specs.declared.command.Command.TheVariants.{Measure, Admit, Limiter, LimiterAllow, Position, PositionAllow, PositionReset, PositionSet, PositionGet}
-use Rattle.replay.specs.Commands.{Says}
+use Rattle.replay.specs.Commands.{Says, written, said}
 use Rattle.replay.specs.Orders.{Order, measure, admit, limiter, limiter_allow, position, position_allow, position_reset, position_set, position_get, Part, word, number, rate, rule, text, parts, named}
 
 -- a backslash is doubled, a line end is `\n`, what is not printable ASCII is `\x` with two lower-case digits, all else stands as it is
@@ -73,16 +72,8 @@ abbrev pub meaning : List ℕ → List ℕ
 meaning raw = meaning_within (length raw) raw
 
 -- the order that a command says
-abbrev pub said : Command → Order
-said (Measure w u t) = measure w u (meaning t.now)
-said (Admit t) = admit (meaning t.now)
-said (Limiter r s) = limiter r s
-said (LimiterAllow n) = limiter_allow n
-said (Position n) = position n
-said (PositionAllow n) = position_allow n
-said (PositionReset n) = position_reset n
-said (PositionSet n) = position_set n
-said PositionGet = position_get
+abbrev pub order_of : Command → Order
+order_of c = said c (meaning (written c))
 
 -- the bytes are the canonical line of what the command says
 pub record Rendered (c : Command) (bs : List ℕ) : Type 0 where

@@ -17,7 +17,7 @@ use script::number::read_number;
 use std::marker::Model;
 
 // What is left of a line: the text behind the space that ended the last word, or nothing where the line ended there.
-#[derive(Drop)]
+#[derive(Debug, Drop)]
 pub(crate) struct Words<'a> {
     rest: Option<&'a [u8]>,
 }
@@ -60,9 +60,7 @@ impl<'a> Words<'a> {
     pub(crate) fn skip(&mut self)
         ensures { self.new ≡ after self.old }
     {
-        if let Some(text) = self.rest {
-            *self = Words::split(text).1;
-        }
+        let _ = self.word();
     }
 
     pub(crate) fn number(&mut self) -> Result<u64, Fault>

@@ -1,7 +1,7 @@
 // The canonical line of a command.
 ghost use Rattle.std.specs.Prelude.{IfOk, Some};
 ghost use Rattle.replay.specs.Orders.{named};
-ghost use Rattle.replay.specs.Rendering.{escaped, escaped_byte, meaning, rendering, said, Rendered};
+ghost use Rattle.replay.specs.Rendering.{escaped, escaped_byte, meaning, rendering, order_of, Rendered};
 
 use crate::command::{Command, Rule};
 use script::escape::SpelledBytes;
@@ -17,7 +17,7 @@ pub fn render(heap: Global, command: &Command<'_>) -> Result<Vec<u8>, AllocError
 }
 
 impl fmt::Display for Command<'_> {
-    ghost output = { λ command. Some (rendering (said command)) };
+    ghost output = { λ command. Some (rendering (order_of command)) };
 
     fn fmt<W: fmt::Write>(&self, f: &mut fmt::Formatter<W>) -> fmt::Result {
         match *self {
@@ -48,7 +48,7 @@ impl fmt::Display for Rule {
 }
 
 // A text as it stands in a line, written with no escape but those that its bytes need.
-#[derive(Clone, Copy)]
+#[derive(Clone, Copy, Debug)]
 struct Escaped<'a>(&'a [u8]);
 
 impl fmt::Display for Escaped<'_> {
@@ -62,7 +62,7 @@ impl fmt::Display for Escaped<'_> {
     }
 }
 
-#[derive(Clone, Copy)]
+#[derive(Clone, Copy, Debug)]
 struct EscapedByte(u8);
 
 impl fmt::Display for EscapedByte {

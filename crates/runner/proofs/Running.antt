@@ -58,18 +58,6 @@ pub record Sofar (script before : List ℕ) (s : State) (rest now : List ℕ) (n
   pub room : n + length rest ≤ length script
   pub few : (j.commands ≤ n) × (j.refused ≤ n)
 
-pub first : (script before : List ℕ) (s : State) (j : Summary) → s ≡ nothing → j ≡ none → Sofar script before s script before 0 j
-first script before s j e f =
-    subst (λ x. Sofar script before x script before 0 j) (sym e)
-    (subst (λ y. Sofar script before nothing script before 0 y) (sym f)
-    (record {
-      done = [];
-      put = sym (append-nil before);
-      on = λ trace k e r. subst (Replayed nothing script trace (plus none k)) (sym (shift_none e)) (subst (λ y. Replayed nothing script trace y e) (sym (plus_none k)) r);
-      room = omega arith;
-      few = (omega arith, omega arith);
-    }))
-
 few_refusals : (a : Answer) → refusals a ≤ 1
 few_refusals answers.Ok = omega arith
 few_refusals (answers.Refused n at) = omega arith

@@ -3,27 +3,13 @@ use Rattle.std.specs.Prelude.{◌≡◌, ℕ, suc, ◌+◌, List, [], ◌++◌, 
 use Rattle.trace.specs.declared.answer.Answer.{Answer}
 use Rattle.trace.specs.declared.answer.Answer.TheVariants as answers
 use Rattle.replay.specs.declared.command.Fault.{Fault}
-use Rattle.replay.specs.declared.command.Command.{Command}
-use Rattle.replay.specs.declared.command.Command.TheVariants.{Measure, Admit, Limiter, LimiterAllow, Position, PositionAllow, PositionReset, PositionSet, PositionGet}
 use Rattle.replay.specs.Commands.{Refused}
 use Rattle.replay.specs.Grammar.{Spells}
-use Rattle.replay.specs.Orders.{Order, measure, admit, limiter, limiter_allow, position, position_allow, position_reset, position_set, position_get}
+use Rattle.replay.specs.Orders.{Order}
 use Rattle.script.specs.Scripts.{Line, Skipped}
 use Rattle.trace.specs.Traces.{traced}
 use Rattle.runner.specs.declared.summary.Summary.{Summary}
 use Rattle.runner.specs.Answers.{State, answer, after}
-
--- what a command says whose text means bs
-abbrev pub said : Command → List ℕ → Order
-said (Measure w u t) bs = measure w u bs
-said (Admit t) bs = admit bs
-said (Limiter r s) bs = limiter r s
-said (LimiterAllow n) bs = limiter_allow n
-said (Position n) bs = position n
-said (PositionAllow n) bs = position_allow n
-said (PositionReset n) bs = position_reset n
-said (PositionSet n) bs = position_set n
-said PositionGet bs = position_get
 
 -- the line was answered by a, from the state s to t
 pub record Played (s : State) (line : List ℕ) (a : Answer) (t : State) : Type 0 where

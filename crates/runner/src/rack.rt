@@ -1,7 +1,7 @@
 // What stands while a script runs, and the commands on it.
 ghost use Rattle.std.specs.Prelude.{◌≡◌};
 ghost use Rattle.runner.specs.Answers.{State, nothing, answer, after};
-ghost use Rattle.runner.specs.Runs.{said};
+ghost use Rattle.replay.specs.Commands.{said};
 
 use crate::calls::{admitted, make_limiter, measured, told};
 use limiter::{AtomicPosition, RateLimiter};
@@ -9,7 +9,7 @@ use replay::command::Command;
 use std::marker::Model;
 use trace::answer::Answer;
 
-#[derive(Drop)]
+#[derive(Debug, Drop)]
 pub struct Rack {
     limiter: Option<RateLimiter>,
     position: Option<AtomicPosition>,

@@ -38,7 +38,7 @@ pub fn next_byte(text: &[u8]) -> Option<(u8, &[u8])>
 }
 
 // The bytes that a text spells, up to its end or to the first backslash that begins no escape.
-#[derive(Drop)]
+#[derive(Debug, Drop)]
 pub struct SpelledBytes<'a> {
     rest: &'a [u8],
 }

@@ -29,7 +29,7 @@ pub fn next_line(script: &[u8]) -> Option<(&[u8], &[u8])>
 }
 
 // The lines of a script, without their ends.
-#[derive(Drop)]
+#[derive(Debug, Drop)]
 pub struct Lines<'a> {
     rest: &'a [u8],
 }

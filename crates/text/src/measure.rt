@@ -15,7 +15,7 @@ pub const MOST_BYTES: usize = 128;
 pub fn measure<R: WidthRule>(width: usize, rule: &R, text: &[u8]) -> Result<Metrics, Refusal>
     ensures { Measured width (R.cells rule.now) text.now result }
 {
-    if width < LEAST_WIDTH || MOST_WIDTH < width {
+    if !(LEAST_WIDTH..=MOST_WIDTH).contains(&width) {
         return Err(Refusal::Size);
     }
     if MOST_BYTES < text.len() {

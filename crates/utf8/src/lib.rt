@@ -40,14 +40,14 @@ fn takes_two(code: u32) -> bool
 fn takes_three(code: u32) -> bool
     ensures { result ≡ nat_le 0x800 code && (nat_lt code 0xD800 || nat_lt 0xDFFF code) }
 {
-    0x800 <= code && (code < 0xD800 || 0xDFFF < code)
+    0x800 <= code && !(0xD800..=0xDFFF).contains(&code)
 }
 
 // Whether four octets are the shortest form of code, which is a code point.
 fn takes_four(code: u32) -> bool
     ensures { result ≡ nat_le 0x10000 code && nat_le code 0x10FFFF }
 {
-    0x10000 <= code && code <= 0x10FFFF
+    (0x10000..=0x10FFFF).contains(&code)
 }
 
 fn two(a: u8, b: u8) -> Option<u32>
