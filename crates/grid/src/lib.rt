@@ -1,0 +1,4 @@
+// A terminal over borrowed cells.
+#![tactic(auto)]
+
+mod pane;
