@@ -1,5 +1,7 @@
 -- Borrowed cells as a page.
-use Rattle.std.specs.Prelude.{◌≡◌, ℕ, ◌*◌, ◌<◌, ◌≤◌, List, length, take, drop}
+use Rattle.std.specs.Prelude.{◌≡◌, ℕ, ◌*◌, ◌<◌, ◌≤◌, Bool, ◌&&◌, cond, List, length, take, drop, Some, None, Option, nat_le}
+use Rattle.refusal.specs.declared.Refusal.{Refusal}
+use Rattle.refusal.specs.declared.Refusal.TheVariants.{Size, Cells}
 use Rattle.terminal.specs.Screen.{Page, least_width, most_width, least_height, most_height}
 use Rattle.grid.specs.declared.pane.Pane.{Pane}
 
@@ -31,3 +33,10 @@ pub record Turned (q : Page) (s t : Pane) : Type 0 where
   pub lender : t.cells.ghost_name ≡ s.cells.ghost_name
   pub width : t.width ≡ s.width
   pub height : t.height ≡ s.height
+
+abbrev pub within : ℕ → ℕ → ℕ → Bool
+within low high n = nat_le low n && nat_le n high
+
+-- 1 for a size outside the limits, then 2 for fewer cells than the screen has
+abbrev pub size_refusal : ℕ → ℕ → ℕ → Option Refusal
+size_refusal W H n = cond (within least_width most_width W) (cond (within least_height most_height H) (cond (nat_le (W * H) n) None (Some Cells)) (Some Size)) (Some Size)
