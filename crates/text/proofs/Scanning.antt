@@ -31,7 +31,7 @@ goes_on (Some Plain) b h e = e
 goes_on (Some Colour) b h e = e
 goes_on None b h e = absurd (h refl)
 
-went_on : (v : Option Verdict) (b : Bool) → goes v b ≡ true → (v ≡ None → ⊥) × (b ≡ true)
+pub went_on : (v : Option Verdict) (b : Bool) → goes v b ≡ true → (v ≡ None → ⊥) × (b ≡ true)
 went_on (Some Plain) b e = (λ p. none-some _ (sym p), e)
 went_on (Some Colour) b e = (λ p. none-some _ (sym p), e)
 went_on None b e = absurd (false≢true e)

@@ -2,6 +2,7 @@
 #![tactic(auto)]
 
 pub mod admission;
+pub mod characters;
 pub mod line;
 pub mod measure;
 pub mod metrics;
