@@ -29,7 +29,7 @@ impl<'a> Characters<'a> {
     }
 }
 
-// The next character outside colour sequences, or None at the end. A text that is not admissible ends where it goes wrong, if not before.
+// The next character outside colour sequences, or None at the end. A text that is not admissible ends where it goes wrong.
 impl<'a> Iterator for Characters<'a> {
     type Item = u32;
 
