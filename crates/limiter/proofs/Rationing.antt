@@ -17,7 +17,7 @@ record Kept (start : Ration) (readings : List ℕ) (yeses : ℕ) (r : Ration) : 
   ceiling : r.capacity + yeses ≤ start.capacity + (r.prev - start.prev) / nanos r
 
 -- prev moves over whole intervals: counted from t0, these are added to those before
-moved_on : (t0 prev now j : ℕ) → 0 < j → t0 ≤ prev → (prev + (now - prev) / j * j - t0) / j ≡ (prev - t0) / j + (now - prev) / j
+pub moved_on : (t0 prev now j : ℕ) → 0 < j → t0 ≤ prev → (prev + (now - prev) / j * j - t0) / j ≡ (prev - t0) / j + (now - prev) / j
 moved_on t0 prev now j p onward = grind (arith, add-mul-div_right (prev - t0) ((now - prev) / j) p)
 
 keeps : {start r s : Ration} {readings : List ℕ} {yeses reading : ℕ} {answer : Bool} → Kept start readings yeses r → Asked r reading answer s → Kept start (reading ∷ readings) (counted answer yeses) s

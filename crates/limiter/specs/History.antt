@@ -13,6 +13,11 @@ pub record Sound (r : Ration) : Type 0 where
   pub most : r.interval ≤ 1000
   pub few : r.capacity ≤ 20
 
+-- a limiter: where it stands, and that it may stand there
+pub record Limited : Type 0 where
+  pub ration : Ration
+  pub sound : Sound ration
+
 abbrev pub counted : Bool → ℕ → ℕ
 counted answer yeses = cond answer (yeses + 1) yeses
 

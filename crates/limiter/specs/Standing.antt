@@ -1,5 +1,5 @@
 -- What a position and its limiter hold, and what each call makes of it. A reading is a clock's value in nanoseconds.
-use Rattle.std.specs.Prelude.{ℕ, ◌+◌, ◌-◌, ◌*◌, ◌/◌, min, Bool, cond, ◌&&◌, nat_le}
+use Rattle.std.specs.Prelude.{ℕ, ◌+◌, ◌-◌, ◌*◌, ◌/◌, ◌≤◌, min, Bool, cond, ◌&&◌, nat_le}
 use Rattle.limiter.specs.Spending.{funded, spend}
 
 -- prev counts from start, which is a reading
@@ -8,6 +8,11 @@ pub record Standing : Type 0 where
   pub capacity : ℕ
   pub prev : ℕ
   pub start : ℕ
+
+-- a position: where it stands, and that it holds no more than a burst
+pub record Placed : Type 0 where
+  pub standing : Standing
+  pub few : standing.capacity ≤ 10
 
 abbrev pub fresh : ℕ → Standing
 fresh start = record { pos = 0; capacity = 10; prev = 0; start = start }

@@ -20,17 +20,20 @@ pub struct AtomicPosition {
 }
 
 impl Model for AtomicPosition {
-    ghost use Rattle.limiter.specs.Standing.{Standing};
+    ghost use Rattle.limiter.specs.Standing.{Placed};
 
-    ghost Value = { Standing };
+    ghost Value = { Placed };
 
-    ghost view = { λ p. record { pos = p.pos; capacity = p.capacity.held; prev = p.prev; start = p.start } };
+    ghost view = { λ p. record {
+      standing = record { pos = p.pos; capacity = p.capacity.held; prev = p.prev; start = p.start };
+      few = p.capacity.few;
+    } };
 }
 
 impl AtomicPosition {
     // At position 0, for a bar that starts at the reading `start`.
     pub fn new(start: u64) -> AtomicPosition
-        ensures { result ≡ fresh start }
+        ensures { result.standing ≡ fresh start }
     {
         AtomicPosition {
             pos: 0,
@@ -42,9 +45,9 @@ impl AtomicPosition {
 
     // Whether the position may be reported at the reading `now`.
     pub fn allow(&mut self, now: u64) -> bool
-        ensures polled { Polled self.old now result self.new }
-        ensures paced { (start last yeses : ℕ) → last ≤ now → Course start last yeses self.old → Paced start last yeses now result self.new }
-        ensures few { (self.old.capacity ≤ 10) × (self.new.capacity ≤ 10) }
+        ensures polled { Polled self.old.standing now result self.new.standing }
+        ensures paced { (start last yeses : ℕ) → last ≤ now → Course start last yeses self.old.standing → Paced start last yeses now result self.new.standing }
+        ensures few { (self.old.standing.capacity ≤ 10) × (self.new.standing.capacity ≤ 10) }
     {
         let Some(elapsed) = now.checked_sub(self.start) else {
             return false;
@@ -60,23 +63,23 @@ impl AtomicPosition {
 
     // Starts again at the reading `now`, with the capacity that is held.
     pub fn reset(&mut self, now: u64)
-        ensures again { self.new ≡ restarted self.old now }
-        ensures few { (self.old.capacity ≤ 10) × (self.new.capacity ≤ 10) }
+        ensures again { self.new.standing ≡ restarted self.old.standing now }
+        ensures few { (self.old.standing.capacity ≤ 10) × (self.new.standing.capacity ≤ 10) }
     {
         self.set(0);
         self.prev = now.saturating_sub(self.start);
     }
 
     pub fn set(&mut self, pos: u64)
-        ensures placed { self.new ≡ placed self.old pos }
-        ensures few { (self.old.capacity ≤ 10) × (self.new.capacity ≤ 10) }
+        ensures placed { self.new.standing ≡ placed self.old.standing pos }
+        ensures few { (self.old.standing.capacity ≤ 10) × (self.new.standing.capacity ≤ 10) }
     {
         self.pos = pos;
     }
 
     pub fn get(&self) -> u64
-        ensures value { result ≡ self.now.pos }
-        ensures few { self.now.capacity ≤ 10 }
+        ensures value { result ≡ self.now.standing.pos }
+        ensures few { self.now.standing.capacity ≤ 10 }
     {
         self.pos
     }

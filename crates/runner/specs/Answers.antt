@@ -5,9 +5,11 @@ use Rattle.text.specs.declared.metrics.Metrics.{Metrics}
 use Rattle.text.specs.Width.{plain, house}
 use Rattle.refusal.specs.declared.Refusal.{Refusal}
 use Rattle.refusal.specs.declared.Refusal.TheVariants.{Rate}
+use Rattle.refusal.specs.Numbers.{number}
 use Rattle.text.specs.Outcomes.{admission_refusal, measure_refusal, measured}
 use Rattle.limiter.specs.Ration as rations
 use Rattle.limiter.specs.Standing as standings
+use Rattle.limiter.specs.History.{Limited}
 use Rattle.trace.specs.declared.answer.Answer.{Answer}
 use Rattle.trace.specs.declared.answer.Answer.TheVariants as answers
 use Rattle.trace.specs.Traces.{yes_or_no}
@@ -24,13 +26,21 @@ pub record State : Type 0 where
   pub limiter : Option rations.Ration
   pub position : Option standings.Standing
 
+-- a rack: the two limiters themselves, if they were made
+pub record Held : Type 0 where
+  pub limiter : Option Limited
+  pub position : Option standings.Placed
+
+abbrev pub state : Held → State
+state r = record { limiter = option_map (λ l. l.ration) r.limiter; position = option_map (λ p. p.standing) r.position }
+
 abbrev pub nothing : State
 nothing = record { limiter = None; position = None }
 
 -- what a call answers that is declined by this refusal, or else done: a refusal is told by its number alone
 abbrev pub outcome : Option Refusal → Answer → Answer
 outcome None a = a
-outcome (Some e) a = answers.Refused e None
+outcome (Some e) a = answers.Refused (number e) None
 
 abbrev pub metrics_answer : Metrics → Answer
 metrics_answer m = answers.Metrics m.height m.last_line_width

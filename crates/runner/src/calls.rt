@@ -1,6 +1,8 @@
 // The calls that a refusal may decline.
 ghost use Rattle.std.specs.Prelude.{◌≡◌, OnErr, IfOk, IfErr, Some, None};
+ghost use Rattle.std.specs.Option.{option_map};
 ghost use Rattle.std.specs.Result.{result_err};
+ghost use Rattle.refusal.specs.Numbers.{number as numbered};
 ghost use Rattle.trace.specs.declared.answer.Answer.TheVariants as answers;
 ghost use Rattle.text.specs.Outcomes.{admission_refusal, measure_refusal, measured, Measured};
 ghost use Rattle.limiter.specs.Ration.{fresh};
@@ -18,10 +20,10 @@ use trace::answer::Answer;
 // How these calls tell of a refusal: with one line at most, its index is left out.
 pub(crate) fn told(outcome: Result<Answer, Refusal>) -> Answer
     ensures done { IfOk outcome (λ a. result ≡ a) }
-    ensures declined { IfErr outcome (λ e. result ≡ answers.Refused e None) }
+    ensures declined { IfErr outcome (λ e. result ≡ answers.Refused (numbered e) None) }
 {
     outcome.unwrap_or_else(|refusal| Answer::Refused {
-        refusal,
+        number: refusal.number(),
         place: None,
     })
 }
@@ -61,7 +63,7 @@ pub(crate) fn make_limiter(
     start: u64,
 ) -> Result<Answer, Refusal>
     ensures refused { result_err result ≡ limiter_refusal rate }
-    ensures made { IfOk result (λ a. (a ≡ answers.Ok) × (limiter.new ≡ Some (fresh rate start))) }
+    ensures made { IfOk result (λ a. (a ≡ answers.Ok) × (option_map (λ l. l.ration) limiter.new ≡ Some (fresh rate start))) }
     ensures kept { OnErr result (limiter.new ≡ limiter.old) }
 {
     *limiter = Some(RateLimiter::new(rate, start)?);

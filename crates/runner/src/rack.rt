@@ -1,6 +1,6 @@
 // What stands while a script runs, and the commands on it.
 ghost use Rattle.std.specs.Prelude.{◌≡◌};
-ghost use Rattle.runner.specs.Answers.{State, nothing, answer, after};
+ghost use Rattle.runner.specs.Answers.{state, nothing, answer, after};
 ghost use Rattle.replay.specs.Commands.{said};
 
 use crate::calls::{admitted, make_limiter, measured, told};
@@ -16,16 +16,16 @@ pub struct Rack {
 }
 
 impl Model for Rack {
-    ghost use Rattle.runner.specs.Answers.{State};
+    ghost use Rattle.runner.specs.Answers.{Held};
 
-    ghost Value = { State };
+    ghost Value = { Held };
 
     ghost view = { λ rack. record { limiter = rack.limiter; position = rack.position } };
 }
 
 impl Rack {
     pub fn new() -> Rack
-        ensures { result ≡ nothing }
+        ensures { state result ≡ nothing }
     {
         Rack {
             limiter: None,
@@ -35,8 +35,8 @@ impl Rack {
 
     // The command's answer, where its text means `text`; None where it asks a limiter that was not made.
     pub fn perform(&mut self, command: &Command<'_>, text: &[u8]) -> Option<Answer>
-        ensures answer { result ≡ answer self.old (said command.now text.now) }
-        ensures after { self.new ≡ after self.old (said command.now text.now) }
+        ensures answer { result ≡ answer (state self.old) (said command.now text.now) }
+        ensures after { state self.new ≡ after (state self.old) (said command.now text.now) }
     {
         match *command {
             Command::Measure { width, rule, .. } => Some(told(measured(width, rule, text))),

@@ -1,6 +1,7 @@
 // Replays a script line by line.
 ghost use Rattle.std.specs.Prelude.{◌≡◌, ◌++◌, MatchResult};
 ghost use Rattle.trace.specs.Traces.{traced};
+ghost use Rattle.runner.specs.Answers.{state};
 ghost use Rattle.runner.specs.Runs.{Played, Ran, complete};
 ghost use Rattle.runner.specs.Stops.{Halted, Stopped};
 
@@ -15,7 +16,7 @@ use trace::answer::{Answer, trace};
 
 // Answers one line, and appends its trace.
 pub fn play(rack: &mut Rack, heap: Global, line: &[u8], out: &mut Vec<u8>) -> Result<Answer, Halt>
-    ensures { MatchResult result (λ a. Played rack.old line.now a rack.new × (out.new.items ≡ out.old.items ++ traced line.now a)) (λ e. Halted rack.old line.now rack.new out.old.items out.new.items e) }
+    ensures { MatchResult result (λ a. Played (state rack.old) line.now a (state rack.new) × (out.new.items ≡ out.old.items ++ traced line.now a)) (λ e. Halted (state rack.old) line.now (state rack.new) out.old.items out.new.items e) }
 {
     let command = parse(line)?;
     let mut text = Vec::new(heap);

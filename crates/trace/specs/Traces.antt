@@ -1,6 +1,5 @@
 -- The trace: each command's line as it stood, and its answer.
 use Rattle.std.specs.Prelude.{ℕ, Bool, true, false, List, [], ◌∷◌, ◌++◌, Some, None, codes, decimal, Option}
-use Rattle.refusal.specs.Numbers.{number}
 use Rattle.trace.specs.declared.answer.Answer.{Answer}
 use Rattle.trace.specs.declared.answer.Answer.TheVariants.{Ok, Refused, Metrics, Yes, No, Position}
 
@@ -14,7 +13,7 @@ place (Some k) = codes " at " ++ decimal k
 
 abbrev pub shown : Answer → List ℕ
 shown Ok = codes "ok"
-shown (Refused refusal at) = codes "refused " ++ (decimal (number refusal) ++ place at)
+shown (Refused n at) = codes "refused " ++ (decimal n ++ place at)
 shown (Metrics rows column) = codes "rows " ++ (decimal rows ++ (codes " column " ++ decimal column))
 shown Yes = codes "yes"
 shown No = codes "no"

@@ -3,8 +3,7 @@ ghost use Rattle.std.specs.Prelude.{◌≡◌, Some};
 ghost use Rattle.trace.specs.Appends.{Appends};
 ghost use Rattle.trace.specs.Traces.{shown, traced, yes_or_no};
 
-use crate::put::put;
-use refusal::Refusal;
+use crate::put::{put, put_numbered, put_two};
 use std::alloc::AllocError;
 use std::fmt;
 
@@ -13,19 +12,11 @@ use std::fmt;
 pub enum Answer {
     Ok,
     // The place is that of a call on several lines or operations.
-    Refused {
-        refusal: Refusal,
-        place: Option<u64>,
-    },
-    Metrics {
-        rows: u64,
-        column: u64,
-    },
+    Refused { number: u8, place: Option<u64> },
+    Metrics { rows: u64, column: u64 },
     Yes,
     No,
-    Position {
-        at: u64,
-    },
+    Position { at: u64 },
 }
 
 impl From<bool> for Answer {
@@ -43,13 +34,13 @@ impl fmt::Display for Answer {
         match *self {
             Answer::Ok => write!(f, "ok"),
             Answer::Refused {
-                refusal,
+                number,
                 place: None,
-            } => write!(f, "refused {}", refusal.number()),
+            } => write!(f, "refused {number}"),
             Answer::Refused {
-                refusal,
+                number,
                 place: Some(at),
-            } => write!(f, "refused {} at {at}", refusal.number()),
+            } => write!(f, "refused {number} at {at}"),
             Answer::Metrics { rows, column } => write!(f, "rows {rows} column {column}"),
             Answer::Yes => write!(f, "yes"),
             Answer::No => write!(f, "no"),
@@ -62,8 +53,21 @@ impl fmt::Display for Answer {
 pub fn show(out: &mut Vec<u8>, answer: &Answer) -> Result<(), AllocError>
     ensures { Appends (shown answer.now) out.old.items result out.new.items }
 {
-    let shown = answer.to_string(*out.allocator())?;
-    put(out, shown.as_bytes())
+    match *answer {
+        Answer::Ok => put(out, b"ok"),
+        Answer::Refused {
+            number,
+            place: None,
+        } => put_numbered(out, b"refused ", u64::from(number)),
+        Answer::Refused {
+            number,
+            place: Some(at),
+        } => put_two(out, b"refused ", u64::from(number), b" at ", at),
+        Answer::Metrics { rows, column } => put_two(out, b"rows ", rows, b" column ", column),
+        Answer::Yes => put(out, b"yes"),
+        Answer::No => put(out, b"no"),
+        Answer::Position { at } => put_numbered(out, b"position ", at),
+    }
 }
 
 // Appends the trace of one command: its line as it stood, and its answer; without memory, the first bytes of that.
