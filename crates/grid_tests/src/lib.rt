@@ -62,4 +62,19 @@ mod tests {
         drop(grid);
         assert_eq!(rt; cells, [102, 32, 101, 32, 7]);
     }
+
+    fn clear_above(term: &mut dyn TermLike, n: usize) -> Result<(), Refusal> {
+        term.move_cursor_up(n)?;
+        term.clear_line()
+    }
+
+    #[test]
+    fn through_a_trait_object(rt: HostRuntime) {
+        let mut cells = [7; 5];
+        let mut grid = Grid::new(2, 2, Plain, &mut cells);
+        assert_eq!(rt; grid.write_str(b"abcd"), Ok(()));
+        assert_eq!(rt; clear_above(&mut grid, 1), Ok(()));
+        drop(grid);
+        assert_eq!(rt; cells, [32, 32, 99, 100, 7]);
+    }
 }

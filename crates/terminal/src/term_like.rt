@@ -36,55 +36,55 @@ pub trait TermLike {
     fn apply(&mut self, operation: Operation<'_>) -> Result<(), Refusal>
         ensures { Answered funds steps (meant operation.entry) self.old result self.new };
 
-    final fn move_cursor_up(&mut self, n: usize) -> Result<(), Refusal>
+    fn move_cursor_up(&mut self, n: usize) -> Result<(), Refusal>
         ensures { Answered funds steps (move Direction.Up n) self.old result self.new }
     {
         self.apply(Operation::Move(Direction::Up, n))
     }
 
-    final fn move_cursor_down(&mut self, n: usize) -> Result<(), Refusal>
+    fn move_cursor_down(&mut self, n: usize) -> Result<(), Refusal>
         ensures { Answered funds steps (move Direction.Down n) self.old result self.new }
     {
         self.apply(Operation::Move(Direction::Down, n))
     }
 
-    final fn move_cursor_right(&mut self, n: usize) -> Result<(), Refusal>
+    fn move_cursor_right(&mut self, n: usize) -> Result<(), Refusal>
         ensures { Answered funds steps (move Direction.Right n) self.old result self.new }
     {
         self.apply(Operation::Move(Direction::Right, n))
     }
 
-    final fn move_cursor_left(&mut self, n: usize) -> Result<(), Refusal>
+    fn move_cursor_left(&mut self, n: usize) -> Result<(), Refusal>
         ensures { Answered funds steps (move Direction.Left n) self.old result self.new }
     {
         self.apply(Operation::Move(Direction::Left, n))
     }
 
-    final fn clear_line(&mut self) -> Result<(), Refusal>
+    fn clear_line(&mut self) -> Result<(), Refusal>
         ensures { Answered funds steps clear_line self.old result self.new }
     {
         self.apply(Operation::ClearLine)
     }
 
-    final fn write_str(&mut self, text: &[u8]) -> Result<(), Refusal>
+    fn write_str(&mut self, text: &[u8]) -> Result<(), Refusal>
         ensures { Answered funds steps (write text.now) self.old result self.new }
     {
         self.apply(Operation::WriteStr(text))
     }
 
-    final fn write_return(&mut self) -> Result<(), Refusal>
+    fn write_return(&mut self) -> Result<(), Refusal>
         ensures { Answered funds steps write_return self.old result self.new }
     {
         self.apply(Operation::WriteReturn)
     }
 
-    final fn write_line(&mut self, text: &[u8]) -> Result<(), Refusal>
+    fn write_line(&mut self, text: &[u8]) -> Result<(), Refusal>
         ensures { Answered funds steps (write_line text.now) self.old result self.new }
     {
         self.apply(Operation::WriteLine(text))
     }
 
-    final fn flush(&mut self) -> Result<(), Refusal>
+    fn flush(&mut self) -> Result<(), Refusal>
         ensures { Answered funds steps flush self.old result self.new }
     {
         self.apply(Operation::Flush)
