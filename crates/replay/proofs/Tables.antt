@@ -16,7 +16,7 @@ use Rattle.replay.specs.declared.words.Choice.{Choice}
 use Rattle.replay.specs.declared.words.Choice.TheVariants.{Allow, Reset, Set, Get}
 use Rattle.replay.specs.Words.{pick, rows, verbs, verb, choices, choice, ReadsRule}
 
-other_word : (w x : List ℕ) → (w ≡ x → ⊥) → bytes_eq w x ≡ false
+pub other_word : (w x : List ℕ) → (w ≡ x → ⊥) → bytes_eq w x ≡ false
 other_word w x ne = ⊎_elim (λ e. absurd (ne ((bytes_eq-Decides w x).0 e))) (λ e. e) (cases_Bool (bytes_eq w x))
 
 pub pick_find : {X : Type 0} (w : List ℕ) (table : List (Bor (List ℕ) × X)) → option_map (λ row. row.1) (find (λ row. bytes_eq w row.0.now) table) ≡ pick w (rows table)

@@ -22,10 +22,10 @@ use Rattle.replay.specs.Orders.{Part, number, rate, rule}
 abbrev Taken : Option (List ℕ) → List ℕ → Option (List ℕ) → Type 0
 Taken rest w left = (line : List ℕ) × (rest ≡ Some line) × Cut 32 line w left
 
-took : {p : Part} {rest left : Option (List ℕ)} {w : List ℕ} → Taken rest w left → Spelled p w → Took p rest left
+pub took : {p : Part} {rest left : Option (List ℕ)} {w : List ℕ} → Taken rest w left → Spelled p w → Took p rest left
 took {p} t h = record { line = t.0; from = t.1; spelled = subst (λ w. Spelled p w) t.2.front_is h; to = t.2.rest_is }
 
-halted : {k : Kind} {rest left : Option (List ℕ)} {w : List ℕ} {f : Fault} → Taken rest w left → Wrong k w f → Halts k rest f
+pub halted : {k : Kind} {rest left : Option (List ℕ)} {w : List ℕ} {f : Fault} → Taken rest w left → Wrong k w f → Halts k rest f
 halted {k} {f = f} t h = subst (λ r. Halts k r f) (sym t.1) (wrong_word (subst (λ w. Wrong k w f) t.2.front_is h))
 
 -- where nothing is left
@@ -40,13 +40,13 @@ pub took_rule : {rest left : Option (List ℕ)} {w : List ℕ} (r : Result Rule 
 took_rule (Ok u) t h = took t (as_rule h)
 took_rule {rest} (Err f) t h = subst (λ f. Halts a_rule rest f) (sym h.0) (halted t (no_rule h.1))
 
-took_rate : {n : ℕ} {rest left : Option (List ℕ)} → Took (number n) rest left → n < 256 → Took (rate n) rest left
+pub took_rate : {n : ℕ} {rest left : Option (List ℕ)} → Took (number n) rest left → n < 256 → Took (rate n) rest left
 took_rate {n} t h = record { line = t.line; from = t.from; spelled = again t.spelled; to = t.to }
   where
     again : {w : List ℕ} → Spelled (number n) w → Spelled (rate n) w
     again (as_number m) = as_rate m (omega arith)
 
-above_rate : {n : ℕ} {rest left : Option (List ℕ)} → Took (number n) rest left → (n < 256 → ⊥) → Halts a_rate rest Rate
+pub above_rate : {n : ℕ} {rest left : Option (List ℕ)} → Took (number n) rest left → (n < 256 → ⊥) → Halts a_rate rest Rate
 above_rate {n} t h = subst (λ r. Halts a_rate r Rate) (sym t.from) (wrong_word (again t.spelled))
   where
     again : {w : List ℕ} → Spelled (number n) w → Wrong a_rate w Rate

@@ -20,6 +20,10 @@ pub itself_at : (s : List ℕ) → 0 < length s → (get_or s 0 0 ≡ 92 → ⊥
 itself_at [] h ne = absurd (omega arith)
 itself_at (b ∷ s) h ne = simp take_rest (itself ne)
 
+pub behind_backslash : (P : List ℕ → Type 0) (s : List ℕ) → 0 < length s → get_or s 0 0 ≡ 92 → P (92 ∷ take (length s - 1) (drop 1 s)) → P s
+behind_backslash P [] h e p = absurd (omega arith)
+behind_backslash P (b ∷ s) h e p = subst (λ x. P (x ∷ s)) (sym e) (subst (λ l. P (92 ∷ l)) (take_rest (b ∷ s) 1) p)
+
 pub backslash_at : (t : List ℕ) → 0 < length t → get_or t 0 0 ≡ 92 → Byte (92 ∷ t) 92 (take (length t - 1) (drop 1 t))
 backslash_at [] h e = absurd (omega arith)
 backslash_at (a ∷ t) h e = simp take_rest (subst (λ x. Byte (92 ∷ x ∷ t) 92 t) (sym e) backslash)

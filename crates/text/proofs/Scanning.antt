@@ -149,10 +149,10 @@ module _ (W : ℕ) (u : ℕ → ℕ) where
   closed st [] e a = a
   closed st (c ∷ cs) e a = absurd (omega (arith, e, length-append (encode c) (encodes cs), length-encode c, len_utf8_bounds c))
 
-  open_end : (s : List ℕ) (st : State) (m : Metrics) (rest : List ℕ) → Sofar s st m rest → length rest ≡ 0 → false ≡ closes st → admissible s ≡ false
+  pub open_end : (s : List ℕ) (st : State) (m : Metrics) (rest : List ℕ) → Sofar s st m rest → length rest ≡ 0 → false ≡ closes st → admissible s ≡ false
   open_end s st m rest h e f = refusing s (λ M g. let k = (h.same M).1 g in true≢false (sym (closed st k.codes (ap length k.whole ∙ e) k.accepted) ∙ sym f))
 
-  done : (s : List ℕ) (st : State) (m : Metrics) (rest : List ℕ) → Sofar s st m rest → length rest ≡ 0 → true ≡ closes st → (admissible s ≡ true) × (m ≡ measured W u s)
+  pub done : (s : List ℕ) (st : State) (m : Metrics) (rest : List ℕ) → Sofar s st m rest → length rest ≡ 0 → true ≡ closes st → (admissible s ≡ true) × (m ≡ measured W u s)
   unfolding admissible characters measured
   done s st m (b ∷ rest) h e f = absurd (omega arith)
   done s st m [] h e f =

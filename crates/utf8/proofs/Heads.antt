@@ -1,11 +1,19 @@
 -- From the first octets of a list to the list.
-use Rattle.std.proofs.Common.{◌≡◌, ℕ, zero, suc, ◌-◌, ◌<◌, ◌≤◌, ◌⊎◌, List, [], ◌∷◌, ◌++◌, length, get_or, take, sym, refl, ap, ◌∙◌, subst, inl, inr, arith}
-use lib.Utf8.{encode, scalar_cases}
-use Rattle.std.proofs.str.Laws.{Shape, of1, of2, of3, of4, shape, not_empty}
+use Rattle.std.proofs.Common.{◌≡◌, ℕ, zero, suc, ◌+◌, ◌-◌, ◌<◌, ◌≤◌, ◌⊎◌, List, [], ◌∷◌, ◌++◌, length, get_or, take, drop, sym, refl, ap, ◌∙◌, subst, inl, inr, append-nil, add_comm, arith, take-append-drop}
+use lib.Utf8.{encode, scalar_cases, low_scalar}
+use Rattle.std.proofs.lemmas.List.{take_rest}
+use Rattle.std.proofs.str.Laws.{Shape, of1, of2, of3, of4, shape, not_empty, one}
 use Rattle.std.proofs.str.Faults.{Ranged}
 use Rattle.std.proofs.str.Faults as faults
-use Rattle.utf8.specs.Rfc.{NoChar}
+use Rattle.utf8.specs.Rfc.{Char, NoChar, octets}
 use Rattle.utf8.proofs.Standard.{char, none, encoded, scalar_is}
+
+-- a list and the same list cut after n octets
+pub widen : (s : List ℕ) (n c : ℕ) → Char (take n s) c [] → Char s c (take (length s - n) (drop n s))
+widen s n c h = record {
+  valid = h.valid;
+  split = sym (take-append-drop n s) ∙ ap (λ l. l ++ drop n s) (h.split ∙ append-nil (octets c)) ∙ ap (λ l. octets c ++ l) (sym (take_rest s n));
+}
 
 -- n elements from the i-th on, one by one
 abbrev pub elements : ℕ → ℕ → List ℕ → List ℕ
@@ -20,6 +28,13 @@ pub front : (n : ℕ) (s : List ℕ) → n ≤ length s → take n s ≡ element
 front zero s h = refl
 front (suc n) [] h = absurd (omega arith)
 front (suc n) (a ∷ s) h = ap (λ l. a ∷ l) (front n s (omega arith) ∙ sym (shifted n 0 a s))
+
+-- where the front is a character, the list begins with it
+pub begins : (s : List ℕ) (n c : ℕ) → n ≤ length s → Char (elements n 0 s) c [] → Char s c (take (length s - n) (drop n s))
+begins s n c h k = widen s n c (subst (λ l. Char l c []) (sym (front n s h)) k)
+
+pub one_octet : (a : ℕ) → a < 128 → Char (a ∷ []) a []
+one_octet a h = char (a ∷ []) a [] (low_scalar a (omega arith)) (sym (ap (λ l. l ++ []) (one a h)))
 
 -- what the first octet says of a character's length
 abbrev Sized : List ℕ → List ℕ → Type 0
@@ -62,3 +77,7 @@ short s (inl h) = λ c r k. let some = not_empty c (shape c (scalar_cases c (sca
 short s (inr (inl h)) = no_char s (λ w. omega (arith, w.second h.0))
 short s (inr (inr (inl h))) = no_char s (λ w. omega (arith, w.third h.0))
 short s (inr (inr (inr h))) = no_char s (λ w. omega (arith, w.fourth h.0))
+
+-- where the n octets of a front are the character c, what follows them lies that much further
+pub further : (bs : List ℕ) (c p : ℕ) → Char bs c [] → length bs + p ≡ p + length (octets c)
+further bs c p h = add_comm (length bs) p ∙ ap (λ l. p + length l) (h.split ∙ append-nil (octets c))

@@ -2,6 +2,7 @@
 use Rattle.std.proofs.Common.{◌≡◌, ℕ, true, ◌&&◌, List, [], ◌∷◌, ◌++◌, sym, refl, ap, ◌∙◌, subst, arith}
 use lib.Utf8.{encode, scalar, encodes, scalars}
 use Rattle.std.specs.Str as std
+use Rattle.std.proofs.lemmas.Str.{encode_same}
 use Rattle.std.proofs.lemmas.Bool.Decides.{nat_tests}
 use Rattle.utf8.specs.Rfc.{octets, scalar_value, Char, NoChar, Spells, AsStd}
 use Rattle.utf8.specs.Rfc as rfc
@@ -28,6 +29,10 @@ scalar_is {bs} {c} {rest} h = sym (scalars_are c) ∙ h.valid
 
 pub none : (bs : List ℕ) → std.StartsWithNoChar bs → NoChar bs
 none bs h c rest k = h c rest (scalar_is k) (encoded k)
+
+-- a list begins with one character at most
+pub one_char : (bs : List ℕ) (c d : ℕ) (rest more : List ℕ) → Char bs c rest → Char bs d more → (c ≡ d) × (rest ≡ more)
+one_char bs c d rest more h k = encode_same c d rest more (sym (encoded h) ∙ encoded k)
 
 -- whole texts
 pub spells : (cs bs : List ℕ) → scalars cs ≡ true → encodes cs ≡ bs → Spells bs cs

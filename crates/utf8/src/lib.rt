@@ -26,7 +26,10 @@ pub fn decode(s: &[u8]) -> Option<(u32, &[u8])>
 fn tail(b: u8) -> Option<u32>
     ensures { SomeIff result (Tail b) (b - 0x80) }
 {
-    (0x80..=0xBF).contains(&b).then(|| u32::from(b - 0x80))
+    match b {
+        0x80..=0xBF => Some(u32::from(b - 0x80)),
+        _ => None,
+    }
 }
 
 // Whether two octets are the shortest form of code.
