@@ -4,6 +4,8 @@
 #[cfg(test)]
 mod asked;
 #[cfg(test)]
+mod bounds;
+#[cfg(test)]
 mod draws;
 #[cfg(test)]
 mod reports;
